@@ -111,7 +111,8 @@ upTo-member i (suc n) zero h =
     List·Memᴰ·head e
 upTo-member i (suc n) (suc j) h =
     let e : i + suc j ≡ suc i + j = omega arith in
-    List·Memᴰ·tail (rw e (upTo-member (suc i) n j (omega arith)))
+    let m : List·Memᴰ (i + suc j) (upTo (suc i) n) = rw e (upTo-member (suc i) n j (omega arith)) in
+    List·Memᴰ·tail m
 
 pub upTo-bounds : (i n : ℕ) {x : ℕ} → List·Memᴰ x (upTo i n) → (i ≤ x) × (x < i + n)
 unfolding upTo
