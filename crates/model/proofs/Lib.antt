@@ -1,2 +1,4 @@
 pub mod Basics
+pub mod Words
+pub mod Worth
 pub mod Examples
