@@ -1,4 +1,5 @@
 pub mod Basics
 pub mod Words
 pub mod Worth
+pub mod Following
 pub mod Examples
