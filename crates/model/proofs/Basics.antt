@@ -1,5 +1,5 @@
--- Laws of tests, lists and findings that all other proofs use: what a passed test says, members of lists, and what it means that no
--- fault was found. Assumes nothing.
+-- Laws that all other proofs use: what a passed test says, members of lists, what it means that no fault was found, and that what
+-- fits comes from parts that fit. Assumes nothing.
 use Prim.Native.Nat.{ℕ, zero, suc, _+_, _≤_, _<_}
 use mathlib.Core.Path.{_≡_, refl, sym, _∙_, ap}
 use mathlib.Core.Logic.{_⊎_, inl, inr, ⊎-elim}
@@ -11,7 +11,7 @@ use lib.ListN.{length}
 use borrow.Author.Tests.{ltb-true, leb-true, eqb-true}
 use Rattle.model.specs.Answer.{Reason, Fault, sound, broken, _then_, firstOf, upTo, Rule, le, lt, is, so, kept, allKept, check}
 use Rattle.model.specs.Run.{eachPort}
-use Rattle.model.specs.Sum.{Term, Sum, same, sameTerm, sameSum}
+use Rattle.model.specs.Sum.{Term, Sum, Outcome, tooLarge, fits, andThen, fit, same, sameTerm, sameSum}
 use Rattle.model.specs.Judgement.{all, any}
 
 -- Tests.
@@ -179,3 +179,29 @@ kept-of false n i e = absurd (let z : _≡_ {A = ℕ} 0 1 = cc in omega arith)
 pub check-facts : (n : Reason) (i : ℕ) (rs : List Rule) → check n i rs ≡ sound → Facts rs
 unfolding check
 check-facts n i rs e = facts rs (kept-of (allKept rs) n i e)
+
+-- Where nothing is found in an area of n records, nothing is found in any of them.
+pub record-sound : (fault : ℕ → Fault) (n : ℕ) → firstOf fault (upTo 0 n) ≡ sound → (i : ℕ) → i < n → fault i ≡ sound
+record-sound fault n e i h =
+    let z : 0 + i ≡ i = omega arith in
+    rw z at (firstOf-sound fault (upTo 0 n) e (upTo-member 0 n i h))
+
+-- What fits comes from parts that fit.
+
+pub andThen-fits : {A B : Type 0} (x : Outcome A) (k : A → Outcome B) {b : B} → andThen x k ≡ fits b → (a : A) × (x ≡ fits a) × (k a ≡ fits b)
+unfolding andThen
+andThen-fits tooLarge k e = absurd (let z : _≡_ {A = ℕ} 0 1 = cc in omega arith)
+andThen-fits (fits a) k e = (a, refl, e)
+
+pub cond-fits : {A : Type 0} (b : Bool) (x : Outcome A) {a : A} → cond b x tooLarge ≡ fits a → (b ≡ true) × (x ≡ fits a)
+cond-fits true x e = (refl, e)
+cond-fits false x e = absurd (let z : _≡_ {A = ℕ} 0 1 = cc in omega arith)
+
+pub fits-same : {A : Type 0} {a b : A} → _≡_ {A = Outcome A} (fits a) (fits b) → a ≡ b
+fits-same e = cc
+
+pub fit-fits : (s : Sum) {r : Sum} → fit s ≡ fits r → (length s ≤ 16) × (s ≡ r)
+unfolding fit
+fit-fits s e =
+    let h = cond-fits (leb (length s) 16) (fits s) e in
+    (leb-true (length s) 16 (h .0), fits-same (h .1))

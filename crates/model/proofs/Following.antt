@@ -15,30 +15,9 @@ use Rattle.model.specs.Table.{Action, assign, read, write, Edge, State, 
 use Rattle.model.specs.Run.{Event, took, gave, tick, keepIf, reads, writes, Input, Config, at, act, actAll, fire, isStop, sideAt, edgeOn, next, after}
 use Rattle.model.specs.Sum.{Sum, Outcome, tooLarge, fits, andThen, sumOf, symbolSum, worth}
 use Rattle.model.specs.Path.{allows, walkable, endState, Condition, Side, side, readSymbol, roomOn, followAction, followActions, followEdge, asked, follow}
-use Rattle.model.proofs.Basics.{clash, and-left, and-right}
-use Rattle.model.proofs.Worth.{andThen-fits, cond-fits, fits-same, symbol-worth, sumOf-worth}
-
--- Reads and writes of a log, over `++` and `map`.
-
-pub reads-append : {A : Type 0} (p : ℕ) (l m : List (Event A)) → reads p (l ++ m) ≡ reads p l + reads p m
-unfolding reads tick
-reads-append p [] m = omega arith
-reads-append p (took q ∷ l) m = by (eqb p q) (reads-append p l m)
-  where
-    by : (b : Bool) → reads p (l ++ m) ≡ reads p l + reads p m → tick b (reads p (l ++ m)) ≡ tick b (reads p l) + reads p m
-    by true e = omega arith
-    by false e = e
-reads-append p (gave q x ∷ l) m = reads-append p l m
-
-pub writes-append : {A : Type 0} (p : ℕ) (l m : List (Event A)) → writes p (l ++ m) ≡ writes p l ++ writes p m
-unfolding writes keepIf
-writes-append p [] m = refl
-writes-append p (took q ∷ l) m = writes-append p l m
-writes-append {A} p (gave q x ∷ l) m = by (eqb p q) (writes-append p l m)
-  where
-    by : (b : Bool) → writes p (l ++ m) ≡ writes p l ++ writes p m → keepIf b x (writes p (l ++ m)) ≡ keepIf b x (writes p l) ++ writes p m
-    by true e = ap (λ (r : List A). x ∷ r) e
-    by false e = e
+use Rattle.model.proofs.Basics.{clash, and-left, and-right, andThen-fits, cond-fits, fits-same}
+use Rattle.model.proofs.Logs.{reads-append}
+use Rattle.model.proofs.Worth.{symbol-worth, sumOf-worth}
 
 -- The event that an event with sums stands for.
 unfoldable pub eventWorth : ℕ → (ℕ → ℕ) → Event Sum → Event ℕ
@@ -126,28 +105,28 @@ module _ (w : ℕ) (ρ : ℕ → ℕ) (input : Input) (before : List (Event ℕ)
   action-matches env (assign v e) c d d′ m f =
       let (s, es, f′) = andThen-fits (sumOf w env e) _ f in
       rw (← (fits-same f′))
-      (record
-      { state = m .state
-      ; variables = rw (m .variables, map-set, sumOf-worth w ρ env e s es) refl
-      ; log = m .log
+      (record {
+        state = m .state;
+        variables = rw (m .variables, map-set, sumOf-worth w ρ env e s es) refl;
+        log = m .log;
       })
   action-matches env (read p v) c d d′ m f =
       let h = cond-fits (roomOn p (reads p (d .events))) _ f in
       let r = room-facts p (reads p (d .events)) (h .0) in
       rw (← (fits-same (h .1)))
-      (record
-      { state = m .state
-      ; variables = rw (read-worth p c d m (r .0) (r .1), m .variables, map-set) refl
-      ; log = appended c d (took p) m
+      (record {
+        state = m .state;
+        variables = rw (read-worth p c d m (r .0) (r .1), m .variables, map-set) refl;
+        log = appended c d (took p) m;
       })
   action-matches env (write p e) c d d′ m f =
       let (s, es, f′) = andThen-fits (sumOf w env e) _ f in
       let h = cond-fits (roomOn p (length (writes p (d .events)))) _ f′ in
       rw (← (fits-same (h .1)))
-      (record
-      { state = m .state
-      ; variables = m .variables
-      ; log = rw (← (sumOf-worth w ρ env e s es)) (appended c d (gave p s) m)
+      (record {
+        state = m .state;
+        variables = m .variables;
+        log = rw (← (sumOf-worth w ρ env e s es)) (appended c d (gave p s) m);
       })
 
   actions-match : (env : List Sum) (as′ : List Action) (c : Config) (d d′ : Side) → Matches w ρ before c d → followActions w env as′ d ≡ fits d′ → Matches w ρ before (actAll w input (map (worth w ρ) env) as′ c) d′
@@ -165,10 +144,10 @@ module _ (w : ℕ) (ρ : ℕ → ℕ) (input : Input) (before : List (Event ℕ)
       let n = actions-match (d .environment) (e .actions) c d x m ex in
       let q = ap (λ (vs : List ℕ). actAll w input vs (e .actions) c) (m .variables) in
       rw (← (fits-same f′))
-      (record
-      { state = refl
-      ; variables = ap (λ (r : Config). r .variables) q ∙ n .variables
-      ; log = ap (λ (r : Config). r .log) q ∙ n .log
+      (record {
+        state = refl;
+        variables = ap (λ (r : Config). r .variables) q ∙ n .variables;
+        log = ap (λ (r : Config). r .log) q ∙ n .log;
       })
 
   -- What a test asks: true on the side that is taken, and only there.
@@ -177,11 +156,12 @@ module _ (w : ℕ) (ρ : ℕ → ℕ) (input : Input) (before : List (Event ℕ)
   unfolding asked sideAt
   asked-test k l r e f b d cs h =
       let (s, es, h₁) = andThen-fits (sumOf w (d .environment) l) _ h in
-      let (s′, es′, h₂) = andThen-fits (sumOf w (d .environment) r) _ h₁ in
-      (record { kind = k; left = s; right = s′; taken = b },
-      sym (fits-same h₂),
-      refl,
-      rw (sumOf-worth w ρ (d .environment) l s es, sumOf-worth w ρ (d .environment) r s′ es′) refl)
+      let (s′, es′, h₂) = andThen-fits (sumOf w (d .environment) r) _ h₁ in (
+        record { kind = k; left = s; right = s′; taken = b },
+        sym (fits-same h₂),
+        refl,
+        rw (sumOf-worth w ρ (d .environment) l s es, sumOf-worth w ρ (d .environment) r s′ es′) refl,
+      )
 
   asked-holds : (x : State) (b : Bool) (d : Side) (cs : List Condition) → asked w x b d ≡ fits cs → sideAt w (map (worth w ρ) (d .environment)) x ≡ b → AllHold w ρ cs
   unfolding asked AllHold Holds
@@ -241,13 +221,13 @@ module _ (w : ℕ) (ρ : ℕ → ℕ) (input : Input) (before : List (Event ℕ)
   chosen t b bs d d′ f =
       let (cs, ec, f₁) = andThen-fits (asked w (t (d .state)) b d) _ f in
       let (x, ex, f₂) = andThen-fits (followEdge w (edgeOn (t (d .state)) b) (side (d .state) (d .environment) (d .conditions ++ cs) (d .events))) _ f₁ in
-      record
-      { conditions = cs
-      ; between = x
-      ; asks = ec
-      ; keeps = edge-keeps (edgeOn (t (d .state)) b) _ x ex
-      ; edge = ex
-      ; rest = f₂
+      record {
+        conditions = cs;
+        between = x;
+        asks = ec;
+        keeps = edge-keeps (edgeOn (t (d .state)) b) _ x ex;
+        edge = ex;
+        rest = f₂;
       }
 
   edge-state : (e : Edge) (d d′ : Side) → followEdge w e d ≡ fits d′ → d′ .state ≡ e .target
@@ -321,19 +301,20 @@ module _ (w : ℕ) (ρ : ℕ → ℕ) (input : Input) (before : List (Event ℕ)
       let a : allows (t (d .state)) b ≡ true = and-left (allows (t (d .state)) b) _ v in
       let goes : isStop (t (c .state)) ≡ false = rw (m .state) (allows-goes (t (d .state)) b a) in
       let on : sideAt w (c .variables) (t (c .state)) ≡ b =
-          rw (m .variables, m .state)
-          (asked-taken (t (d .state)) b d (x .conditions) (x .asks) a (asked-held t b bs d d′ x h)) in
+      rw (m .variables, m .state)
+      (asked-taken (t (d .state)) b d (x .conditions) (x .asks) a (asked-held t b bs d d′ x h)) in
       let here : x .between .state ≡ edgeOn (t (d .state)) b .target =
-          edge-state (edgeOn (t (d .state)) b) _ (x .between) (x .edge) in
-      (goes,
-      on,
-      follow-true
-      t
-      bs
-      (next w input t c)
-      (x .between)
-      d′
-      (step-matches t b bs c d d′ x m goes on)
-      (rw here (and-right (allows (t (d .state)) b) _ v))
-      (x .rest)
-      h)
+      edge-state (edgeOn (t (d .state)) b) _ (x .between) (x .edge) in (
+        goes,
+        on,
+        follow-true
+            t
+            bs
+            (next w input t c)
+            (x .between)
+            d′
+            (step-matches t b bs c d d′ x m goes on)
+            (rw here (and-right (allows (t (d .state)) b) _ v))
+            (x .rest)
+            h,
+      )

@@ -1,5 +1,10 @@
 pub mod Basics
 pub mod Words
 pub mod Worth
+pub mod Normal
+pub mod Logs
 pub mod Following
+pub mod Conditions
+pub mod CheckedTable
+pub mod TrialRun
 pub mod Examples

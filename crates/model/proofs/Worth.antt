@@ -12,28 +12,8 @@ use borrow.Author.Tests.{eqb-true}
 use Rattle.model.specs.Word.{wrap, plus, minus, times, negated}
 use Rattle.model.specs.Expr.{Expr, constant, variable, sum, difference, product, negation, value}
 use Rattle.model.specs.Sum.{Term, Sum, Outcome, tooLarge, fits, andThen, same, precedes, keep, insert, collect, fit, empty, constantSum, symbolSum, add, negateTerm, negate, subtract, place, merge, termProduct, products, multiply, sumOf, powers, total, worth}
-use Rattle.model.proofs.Basics.{same-symbols}
+use Rattle.model.proofs.Basics.{same-symbols, andThen-fits, cond-fits, fits-same, fit-fits}
 use Rattle.model.proofs.Words.{Alike, alike-same, alike-sym, _⨾_, alike-wrap, alike-plus, alike-times, wrap-zero, wrap-word, negated-undoes, undone-by, minus-is}
-
--- What fits comes from parts that fit.
-
-pub andThen-fits : {A B : Type 0} (x : Outcome A) (k : A → Outcome B) {b : B} → andThen x k ≡ fits b → (a : A) × (x ≡ fits a) × (k a ≡ fits b)
-unfolding andThen
-andThen-fits tooLarge k e = absurd (let z : _≡_ {A = ℕ} 0 1 = cc in omega arith)
-andThen-fits (fits a) k e = (a, refl, e)
-
-pub cond-fits : {A : Type 0} (b : Bool) (x : Outcome A) {a : A} → cond b x tooLarge ≡ fits a → (b ≡ true) × (x ≡ fits a)
-cond-fits true x e = (refl, e)
-cond-fits false x e = absurd (let z : _≡_ {A = ℕ} 0 1 = cc in omega arith)
-
-pub fits-same : {A : Type 0} {a b : A} → _≡_ {A = Outcome A} (fits a) (fits b) → a ≡ b
-fits-same e = cc
-
-pub fit-fits : (s : Sum) {r : Sum} → fit s ≡ fits r → (length s ≤ 16) × (s ≡ r)
-unfolding fit
-fit-fits s e =
-    let h = cond-fits (leb (length s) 16) (fits s) e in
-    (borrow.Author.Tests.leb-true (length s) 16 (h .0), fits-same (h .1))
 
 -- What a term is worth, before wrapping.
 unfoldable pub termTotal : (ℕ → ℕ) → Term → ℕ

@@ -7,18 +7,18 @@ use mathlib.Core.Option.{Option, none, some}
 use lib.Dec.{leb, eqb}
 use lib.ListN.{length, getD}
 use Rattle.model.specs.Answer.{Answer, accepted, Fault, sound, broken, _then_, firstOf, upTo, check, Rule, is, le, so, inImage, stopsDiffer, notCovered, doesNotFollow, overSize, overTests, noContradiction, notAssured, readsDiffer, writesDiffer, linkNotKept}
-use Rattle.model.specs.Word.{base, Kind, equal, kindNumber, holds}
+use Rattle.model.specs.Word.{base, wrap, Kind, equal, kindNumber, holds}
 use Rattle.model.specs.Table.{Table, tableOf, tableFault, states}
 use Rattle.model.specs.Run.{reads, writes, isStop, eachPort}
 use Rattle.model.specs.Sum.{Term, Sum, empty, symbolSum, sameSum, same, Outcome, tooLarge, fits, andThen}
 use Rattle.model.specs.Path.{isNone, walkable, endState, rule11, Condition, Side, side, follow}
 use Rattle.model.specs.Correspondence.{Link, Path, Pair, pairs, pairAt, listFault}
 
--- The constant that a sum is, where it is one: "the empty sum is the constant 0".
-unfoldable pub constantOf : Sum → Option ℕ
-constantOf [] = some 0
-constantOf (t ∷ []) = cond (isNone (t .symbols)) (some (t .coefficient)) none
-constantOf (t ∷ u ∷ s) = none
+-- The constant that a sum is, as a word, where it is one: "the empty sum is the constant 0".
+unfoldable pub constantOf : ℕ → Sum → Option ℕ
+constantOf w [] = some 0
+constantOf w (t ∷ []) = cond (isNone (t .symbols)) (some (wrap w (t .coefficient))) none
+constantOf w (t ∷ u ∷ s) = none
 
 unfoldable pub sameKind : Kind → Kind → Bool
 sameKind k l = eqb (kindNumber k) (kindNumber l)
@@ -31,7 +31,7 @@ settledBy w k (some a) none alike = cond alike (some (sameKind k equal)) none
 settledBy w k (some a) (some b) alike = some (holds w k a b)
 
 unfoldable pub settled : ℕ → Condition → Option Bool
-settled w c = settledBy w (c .kind) (constantOf (c .left)) (constantOf (c .right)) (sameSum (c .left) (c .right))
+settled w c = settledBy w (c .kind) (constantOf w (c .left)) (constantOf w (c .right)) (sameSum (c .left) (c .right))
 
 unfoldable pub settledAs : Bool → Option Bool → Bool
 settledAs b none = false
