@@ -5,6 +5,7 @@ pub mod Normal
 pub mod Logs
 pub mod Following
 pub mod Conditions
+pub mod Accepted
 pub mod CheckedTable
 pub mod TrialRun
 pub mod Examples
