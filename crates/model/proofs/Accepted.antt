@@ -65,18 +65,18 @@ matched w t u pair path target e =
     let j₁ = then-second _ _ jb in
     let j₂ = then-second _ _ j₁ in
     let j₃ = then-second _ _ j₂ in
-    record
-    { first = a
-    ; second = b
-    ; followedFirst = fa
-    ; followedSecond = fb
-    ; endsFirst = eqb-true _ _ (and-left (eqb (endState t (pair .first) (path .first)) (target .first)) _ leads)
-    ; walked = and-left (walkable u (pair .second) (path .second)) _ leads′
-    ; endsSecond = eqb-true _ _ (and-right (walkable u (pair .second) (path .second)) _ leads′)
-    ; assures = check-facts _ _ _ (then-first _ _ j₁) .0
-    ; reading = λ p h. eqb-true _ _ (each-port _ (check-facts _ _ _ (then-first _ _ j₂) .0) p h)
-    ; writing = λ p h. same-sums _ _ (each-port _ (check-facts _ _ _ (then-first _ _ j₃) .0) p h)
-    ; linking = λ l m. same-sum _ _ (all-at _ (target .links) (check-facts _ _ _ (then-second _ _ j₃) .0) m)
+    record {
+      first = a;
+      second = b;
+      followedFirst = fa;
+      followedSecond = fb;
+      endsFirst = eqb-true _ _ (and-left (eqb (endState t (pair .first) (path .first)) (target .first)) _ leads);
+      walked = and-left (walkable u (pair .second) (path .second)) _ leads′;
+      endsSecond = eqb-true _ _ (and-right (walkable u (pair .second) (path .second)) _ leads′);
+      assures = check-facts _ _ _ (then-first _ _ j₁) .0;
+      reading = λ p h. eqb-true _ _ (each-port _ (check-facts _ _ _ (then-first _ _ j₂) .0) p h);
+      writing = λ p h. same-sums _ _ (each-port _ (check-facts _ _ _ (then-first _ _ j₃) .0) p h);
+      linking = λ l m. same-sum _ _ (all-at _ (target .links) (check-facts _ _ _ (then-second _ _ j₃) .0) m);
     }
 
 -- What the rules of a path's record say of its sides and its target.
@@ -101,10 +101,10 @@ path-right : (image : List ℕ) (i : ℕ) → pathFault image i ≡ sound → Pa
 unfolding pathFault pathAt sideRules
 path-right image i e =
     let f = check-facts _ _ _ e in
-    record
-    { leaves = rw length-choices (f .0)
-    ; short = rw length-choices (f .1 .0)
-    ; possible = λ m. rw length-choices (mark-says _ (pathWord image i 5) _ _ _ (f .1 .1 .1) m)
+    record {
+      leaves = rw length-choices (f .0);
+      short = rw length-choices (f .1 .0);
+      possible = λ m. rw length-choices (mark-says _ (pathWord image i 5) _ _ _ (f .1 .1 .1) m);
     }
 
 -- What acceptance says of a pair.
@@ -174,19 +174,19 @@ module _ (w : ℕ) (first second list : List ℕ) (yes′ : verdictAt w first se
       let j₁ = then-second _ _ judged in
       let one = judgePath w (tableOf first) (tableOf second) (pairAt list) (pairAt list i) in
       let each : (path : Path) → List·Memᴰ path (pairAt list i .paths) → one path ≡ sound =
-          λ path m. firstOf-sound one (pairAt list i .paths) (then-second _ _ j₁) m in
-      record
-      { stopsAlike = beq-true _ _ (check-facts _ _ _ (then-first _ _ judged) .0)
-      ; covered = check-facts _ _ _ (then-first _ _ j₁) .0
-      ; linksRight = λ l m.
-          let (j, among, q) = Memᴰ·of-map (linkAt list) _ m in
-          let bounds = upTo-bounds _ _ among in
-          let right = check-facts _ _ _ (link-sound j (omega arith)) in
-          rw (← q) (omega arith)
-      ; pathsRight = λ path m.
-          let (j, among, q) = Memᴰ·of-map (pathAt list) _ m in
-          let bounds = upTo-bounds _ _ among in
-          rw (← q) (path-right list j (path-sound j (omega arith)))
-      ; refutes = λ path m. path-refuted w _ _ (pairAt list) (pairAt list i) path (each path m)
-      ; matches = λ path m. path-matched w _ _ (pairAt list) (pairAt list i) path (each path m)
+      λ path m. firstOf-sound one (pairAt list i .paths) (then-second _ _ j₁) m in
+      record {
+        stopsAlike = beq-true _ _ (check-facts _ _ _ (then-first _ _ judged) .0);
+        covered = check-facts _ _ _ (then-first _ _ j₁) .0;
+        linksRight = λ l m.
+            let (j, among, q) = Memᴰ·of-map (linkAt list) _ m in
+            let bounds = upTo-bounds _ _ among in
+            let right = check-facts _ _ _ (link-sound j (omega arith)) in
+            rw (← q) (omega arith);
+        pathsRight = λ path m.
+            let (j, among, q) = Memᴰ·of-map (pathAt list) _ m in
+            let bounds = upTo-bounds _ _ among in
+            rw (← q) (path-right list j (path-sound j (omega arith)));
+        refutes = λ path m. path-refuted w _ _ (pairAt list) (pairAt list i) path (each path m);
+        matches = λ path m. path-matched w _ _ (pairAt list) (pairAt list i) path (each path m);
       }

@@ -81,7 +81,7 @@ unfolding AllHold
 hold-append w ρ l m h k = λ c i. ⊎-elim (h c) (k c) (List·Memᴰ·append-cases l i)
 
 -- The run's next configuration where it takes a side.
-next-taken : (w : ℕ) (input : Input) (t : Table) (c : Config) (b : Bool) → isStop (t (c .state)) ≡ false → sideAt w (c .variables) (t (c .state)) ≡ b → next w input t c ≡ fire w input (edgeOn (t (c .state)) b) c
+pub next-taken : (w : ℕ) (input : Input) (t : Table) (c : Config) (b : Bool) → isStop (t (c .state)) ≡ false → sideAt w (c .variables) (t (c .state)) ≡ b → next w input t c ≡ fire w input (edgeOn (t (c .state)) b) c
 unfolding next
 next-taken w input t c b s e = rw (s, e) refl
 

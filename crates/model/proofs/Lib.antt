@@ -4,8 +4,11 @@ pub mod Worth
 pub mod Normal
 pub mod Logs
 pub mod Following
+pub mod Coverage
+pub mod Walking
 pub mod Conditions
 pub mod Accepted
+pub mod Simulation
 pub mod CheckedTable
 pub mod TrialRun
 pub mod Examples

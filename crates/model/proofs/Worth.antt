@@ -217,6 +217,10 @@ module _ (w : ℕ) (ρ : ℕ → ℕ) where
           ⨾ alike-times (worth-alike s) (worth-alike t))
           .wraps
 
+  -- The variable's value is what its sum is worth.
+  pub variable-worth : (env : List Sum) (v : ℕ) → getD (map (worth w ρ) env) v 0 ≡ worth w ρ (getD env v empty)
+  variable-worth env v = ap (getD (map (worth w ρ) env) v) (sym empty-worth) ∙ List·getD-map (worth w ρ) env v empty
+
   -- An operation on two sums that is worth an operation on words, of two expressions that are worth their values.
   two : (env : List Sum) (l r : Expr) (op : Sum → Sum → Outcome Sum) (on : ℕ → ℕ → ℕ) → ((s t u : Sum) → op s t ≡ fits u → worth w ρ u ≡ on (worth w ρ s) (worth w ρ t)) → (a b : ℕ) → ((s : Sum) → sumOf w env l ≡ fits s → worth w ρ s ≡ a) → ((s : Sum) → sumOf w env r ≡ fits s → worth w ρ s ≡ b) → (s : Sum) → andThen (sumOf w env l) (λ x. andThen (sumOf w env r) (λ y. op x y)) ≡ fits s → worth w ρ s ≡ on a b
   two env l r op on h a b hl hr s e =
@@ -228,7 +232,7 @@ module _ (w : ℕ) (ρ : ℕ → ℕ) where
   pub sumOf-worth : (env : List Sum) (e : Expr) (s : Sum) → sumOf w env e ≡ fits s → worth w ρ s ≡ value w (map (worth w ρ) env) e
   unfolding sumOf value
   sumOf-worth env (constant c) s e = rw (← (fits-same e)) (constant-worth c)
-  sumOf-worth env (variable v) s e = rw (← (fits-same e)) (sym (ap (getD (map (worth w ρ) env) v) (sym empty-worth) ∙ List·getD-map (worth w ρ) env v empty))
+  sumOf-worth env (variable v) s e = rw (← (fits-same e)) (sym (variable-worth env v))
   sumOf-worth env (sum l r) s e = two env l r (add w) (plus w) add-worth _ _ (sumOf-worth env l) (sumOf-worth env r) s e
   sumOf-worth env (difference l r) s e = two env l r (subtract w) (minus w) subtract-worth _ _ (sumOf-worth env l) (sumOf-worth env r) s e
   sumOf-worth env (product l r) s e = two env l r (multiply w) (times w) multiply-worth _ _ (sumOf-worth env l) (sumOf-worth env r) s e
