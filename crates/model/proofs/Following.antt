@@ -16,7 +16,7 @@ use Rattle.model.specs.Run.{Event, took, gave, tick, keepIf, reads, writ
 use Rattle.model.specs.Sum.{Sum, Outcome, tooLarge, fits, andThen, sumOf, symbolSum, worth}
 use Rattle.model.specs.Path.{allows, walkable, endState, Condition, Side, side, readSymbol, roomOn, followAction, followActions, followEdge, asked, follow}
 use Rattle.model.proofs.Basics.{clash, and-left, and-right, andThen-fits, cond-fits, fits-same}
-use Rattle.model.proofs.Logs.{reads-append}
+use Rattle.model.proofs.Runs.{reads-append}
 use Rattle.model.proofs.Worth.{symbol-worth, sumOf-worth}
 
 -- The event that an event with sums stands for.

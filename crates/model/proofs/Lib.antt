@@ -2,13 +2,14 @@ pub mod Basics
 pub mod Words
 pub mod Worth
 pub mod Normal
-pub mod Logs
+pub mod Runs
 pub mod Following
 pub mod Coverage
 pub mod Walking
 pub mod Conditions
 pub mod Accepted
 pub mod Simulation
+pub mod Demand3
 pub mod CheckedTable
 pub mod TrialRun
 pub mod Examples

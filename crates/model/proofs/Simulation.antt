@@ -23,7 +23,7 @@ use Rattle.model.specs.Promise.{Words}
 use Rattle.model.proofs.Basics.{clash, length-upTo}
 use Rattle.model.proofs.Words.{wrap-lt}
 use Rattle.model.proofs.Worth.{symbol-worth, variable-worth}
-use Rattle.model.proofs.Logs.{reads-append, writes-append}
+use Rattle.model.proofs.Runs.{reads-append, writes-append}
 use Rattle.model.proofs.Following.{Matches, Values, AllHold, Takes, reads-worth, writes-worth, follow-end, follow-taken, follow-true}
 use Rattle.model.proofs.Coverage.{covers-covered, once-member}
 use Rattle.model.proofs.Walking.{sides, begins-taken, run-begins-once}
