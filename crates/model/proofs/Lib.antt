@@ -12,4 +12,4 @@ pub mod Simulation
 pub mod Demand3
 pub mod CheckedTable
 pub mod TrialRun
-pub mod Examples
+pub mod Bench

@@ -2,7 +2,7 @@
 -- edges on any endless input that begins with the given words. It ends by one of its four ends, within its limit and its buffer.
 -- 01, "How a table runs": "a port's k-th read takes its k-th word", "an edge is done whole or not begun", "words behind them stay".
 -- Assumes nothing.
-use Prim.Native.Nat.{ℕ, zero, suc, _+_, _≤_, _<_}
+use Prim.Native.Nat.{ℕ, zero, suc, _+_, _/_, _≤_, _<_}
 use mathlib.Core.Path.{_≡_, refl, sym, _∙_, ap}
 use mathlib.Core.Bool.{Bool, true, false, cond}
 use mathlib.Core.List.{List, [], _∷_, _++_, List·Memᴰ, List·Memᴰ·head, List·Memᴰ·tail}
@@ -174,6 +174,11 @@ module _ (w : ℕ) (registers image words : List ℕ) (limit : ℕ) (buffer : Li
   pub trial-variables : (input : Input) → runFault image words ≡ sound → BeginsWith words input → trial w registers image words limit buffer .variables ≡ endless input .variables
   unfolding trial trialOf
   trial-variables input passed begins = rw passed (ap (λ (c : Config). c .variables) (trial-begins input passed begins))
+
+  -- The answer counts the couples of the endless run.
+  pub trial-count : (input : Input) → runFault image words ≡ sound → BeginsWith words input → trial w registers image words limit buffer .couples· ≡ length (coupleWords (endless input .log)) / 2
+  unfolding trial trialOf
+  trial-count input passed begins = rw passed (ap (λ (c : Config). length (coupleWords (c .log)) / 2) (trial-begins input passed begins))
 
   -- The couples in the buffer are those of the endless run, and the words behind them stay.
   pub trial-couples : (input : Input) → runFault image words ≡ sound → BeginsWith words input → trialBuffer w registers image words limit buffer ≡ coupleWords (endless input .log) ++ drop (length (coupleWords (endless input .log))) buffer

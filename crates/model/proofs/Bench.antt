@@ -49,3 +49,16 @@ meter-exchanged = refl
 pub meter-empty : verdict [] meter meterList ≡ answer 1 1 0
 unfolding everything
 meter-empty = refl
+
+-- The sample run: the answer is end 22 in state 0 after 4 edges, with 4 couples, and the couples stand in front of the buffer.
+
+abbrev meterWords : List ℕ
+meterWords = 0 ∷ 7 ∷ 0 ∷ 4294967290 ∷ []
+
+pub meter-run : trial base zeros meter meterWords 10000 (replicate 4096 9) ≡ record { number = 22; image = 0; record· = 0; state = 0; edges = 4; couples· = 4; variables = 4294967290 ∷ replicate 15 0 }
+unfolding everything
+meter-run = refl
+
+pub meter-buffer : trialBuffer base zeros meter meterWords 10000 (replicate 4096 9) ≡ 1 ∷ 0 ∷ 0 ∷ 7 ∷ 1 ∷ 1 ∷ 0 ∷ 6 ∷ replicate 4088 9
+unfolding everything
+meter-buffer = refl
