@@ -1,20 +1,19 @@
 -- What acceptance says, rule by rule: where the verdict is 0 0 0, every pair of the correspondence is judged sound, and each of its
 -- paths is refuted or matched. Assumes nothing.
-use Prim.Native.Nat.{ℕ, zero, suc, _+_, _≤_, _<_}
+use Prim.Native.Nat.{ℕ, zero, suc, _≤_, _<_}
 use mathlib.Core.Path.{_≡_, refl, sym, _∙_, ap}
-use mathlib.Core.Logic.{_⊎_, inl, inr}
-use mathlib.Core.Bool.{Bool, true, false, cond, not, _&&_, Bool·beq}
-use mathlib.Core.List.{List, [], _∷_, _++_, map, List·Memᴰ, Memᴰ·of-map}
+use mathlib.Core.Bool.{Bool, true, false, cond}
+use mathlib.Core.List.{List, map, List·Memᴰ, Memᴰ·of-map}
 use native.Mathlib.Omega.{arith}
 use lib.Dec.{eqb}
 use lib.ListN.{length, getD}
 use borrow.Author.Tests.{eqb-true}
-use Rattle.model.specs.Answer.{Answer, accepted, Fault, sound, broken, _then_, firstOf, upTo, check, inImage}
+use Rattle.model.specs.Answer.{Answer, accepted, Fault, sound, broken, inImage}
 use Rattle.model.specs.Table.{Table, tableOf, tableFault, states}
 use Rattle.model.specs.Run.{reads, writes, isStop}
-use Rattle.model.specs.Sum.{Sum, Outcome, tooLarge, fits, same, sameSum, empty}
+use Rattle.model.specs.Sum.{Outcome, tooLarge, fits, empty}
 use Rattle.model.specs.Path.{choices, walkable, endState, rule11, Side, follow}
-use Rattle.model.specs.Correspondence.{Link, Path, Pair, pairs, links, paths, linkAt, linkFault, pathWord, sideRules, markRules, pathFault, pathAt, pairWord, pairAt, listRules, resetRules, pairFault, listFault}
+use Rattle.model.specs.Correspondence.{Link, Path, Pair, pairs, links, paths, linkAt, linkFault, pathWord, sideRules, markRules, pathFault, pathAt, pairAt, listRules, resetRules, pairFault, listFault}
 use Rattle.model.specs.Judgement.{contradicts, assured, sameReads, sameWrites, keepsLinks, firstSide, secondSide, whenFits, judgeImpossible, judgeSides, leadsTo, judgePossible, judgePath, judgePair, judgement, verdictAt}
 use Rattle.model.proofs.Basics.{clash, and-left, and-right, beq-true, each-port, same-sums, same-sum, all-at, then-first, then-second, firstOf-sound, record-sound, check-facts, Facts, upTo-bounds}
 

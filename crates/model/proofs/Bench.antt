@@ -1,7 +1,7 @@
 -- The definitions compute: the bench examples P1 to P11 by one theorem, and the worked examples of 01. Assumes nothing.
 use Prim.Native.Nat.{ℕ}
 use mathlib.Core.Path.{_≡_, refl}
-use mathlib.Core.List.{List, [], _∷_, _++_}
+use mathlib.Core.List.{List, [], _∷_}
 use lib.ListN.{set, replicate}
 use Rattle.model.specs.Answer as Answer
 use Rattle.model.specs.Answer.{Answer, accepted}
@@ -10,7 +10,7 @@ use Rattle.model.specs.Word.{base}
 use Rattle.model.specs.Expr as Expr
 use Rattle.model.specs.Table as Table
 use Rattle.model.specs.Run as Run
-use Rattle.model.specs.Run.{Trial, trial, trialBuffer, zeros}
+use Rattle.model.specs.Run.{trial, trialBuffer, zeros}
 use Rattle.model.specs.Sum as Sum
 use Rattle.model.specs.Path as Path
 use Rattle.model.specs.Correspondence as List·

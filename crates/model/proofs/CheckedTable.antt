@@ -1,7 +1,7 @@
 -- What a table image that passes its checks holds: its edges lead to its own states, and read only from the four ports.
 -- 01, "The table image": "Edge, 3 words: target state, first action, action count", "1, port, variable (read)", "4 ports each way".
 -- Assumes nothing.
-use Prim.Native.Nat.{ℕ, zero, suc, _+_, _<_}
+use Prim.Native.Nat.{ℕ, zero, suc, _<_}
 use mathlib.Core.Path.{_≡_}
 use mathlib.Core.Bool.{Bool, true, false}
 use mathlib.Core.List.{List, List·Memᴰ, List·Memᴰ·not-nil, Memᴰ·of-map}

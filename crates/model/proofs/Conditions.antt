@@ -1,18 +1,16 @@
 -- What the judgement concludes of conditions is right whatever the words are: a true constant holds, a false one does not, opposites
 -- never hold together, and assured second conditions hold where the first's do. Assumes nothing.
-use Prim.Native.Nat.{ℕ, zero, suc, _+_, _*_}
+use Prim.Native.Nat.{ℕ, _+_, _*_}
 use mathlib.Core.Path.{_≡_, refl, sym, _∙_, ap}
-use mathlib.Core.Logic.{_⊎_, inl, inr, ⊎-elim}
-use mathlib.Core.Bool.{Bool, true, false, cond, not, _&&_, _||_, Bool·beq}
-use mathlib.Core.List.{List, [], _∷_, List·Memᴰ}
+use mathlib.Core.Logic.{⊎-elim}
+use mathlib.Core.Bool.{Bool, true, false, cond, not, _||_}
+use mathlib.Core.List.{List, [], _∷_}
 use mathlib.Core.Option.{Option, none, some}
 use native.Mathlib.Omega.{arith}
-use lib.Dec.{eqb}
-use borrow.Author.Tests.{eqb-true}
 use Rattle.model.specs.Word.{wrap, Kind, equal, signedLess, unsignedLess, kindNumber, holds}
-use Rattle.model.specs.Sum.{Term, Sum, sameSum, powers, total, worth}
+use Rattle.model.specs.Sum.{Sum, sameSum, powers, total, worth}
 use Rattle.model.specs.Path.{Condition, isNone}
-use Rattle.model.specs.Judgement.{constantOf, sameKind, settledBy, settled, settledAs, isTrue, isFalse, sameTest, sameCondition, opposite, any, all, contradicts, assured}
+use Rattle.model.specs.Judgement.{constantOf, sameKind, settledBy, settled, settledAs, isTrue, isFalse, sameTest, sameCondition, opposite, any, contradicts, assured}
 use Rattle.model.proofs.Basics.{clash, and-left, and-right, or-cases, beq-true, same-sum, all-at, any-at}
 use Rattle.model.proofs.Words.{wrap-zero, equal-self, signedLess-self, unsignedLess-self}
 use Rattle.model.proofs.Following.{Holds, AllHold}

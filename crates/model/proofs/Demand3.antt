@@ -13,18 +13,18 @@
 --   6. So two runs that meet at a pair have both stopped, or each goes on by an edge or more and they meet
 --      again at the path's target                                                                           (Simulation)
 -- Here: they meet at reset, so they meet again as far out as one likes, and the Promise follows from that. Assumes nothing.
-use Prim.Native.Nat.{ℕ, zero, suc, _+_, _^_, _≤_, _<_}
-use mathlib.Core.Path.{_≡_, refl, sym, _∙_, ap, subst}
+use Prim.Native.Nat.{ℕ, zero, suc, _+_, _≤_, _<_}
+use mathlib.Core.Path.{_≡_, refl, sym, _∙_, ap}
 use mathlib.Core.Bool.{Bool, true, false}
-use mathlib.Core.List.{List, [], _∷_, _++_}
+use mathlib.Core.List.{List}
 use native.Mathlib.Omega.{arith}
 use lib.Pow.{pow-pos}
-use lib.ListN.{length, getD, replicate, length-replicate}
+use lib.ListN.{getD, replicate, length-replicate}
 use Rattle.model.specs.Answer.{accepted}
 use Rattle.model.specs.Word.{base}
 use Rattle.model.specs.Table.{Table, tableOf}
-use Rattle.model.specs.Run.{reads, writes, Input, Config, at, isStop, next, after, start, zeros}
-use Rattle.model.specs.Correspondence.{pairs, pairAt}
+use Rattle.model.specs.Run.{writes, Input, Config, at, isStop, after, start, zeros}
+use Rattle.model.specs.Correspondence.{pairs}
 use Rattle.model.specs.Judgement.{verdict, verdictAt}
 use Rattle.model.specs.Promise.{Words, Begins, runs, written, readSoFar, Stopped, Stops, Follows, Promise}
 use Rattle.model.proofs.Runs.{after-add, writes-begin, stays, begins-join}
@@ -125,37 +125,26 @@ module _ (w : ℕ) (first second list : List ℕ) (accepts : verdictAt w first s
         record { edgesFirst = 0; edgesSecond = 0; pair = 0; farFirst = omega arith; farSecond = omega arith; meets = meet-at-reset }
     beyond (suc k) = further k (beyond k)
 
-    -- What one run has written is the beginning of what the other writes, if run far enough.
+    -- What one run has written is the beginning of what the other writes, if run far enough: past a point where they are equal.
+
+    far-enough : (x y : Table) (n n′ m : ℕ) → n ≤ n′ → ((p : ℕ) → p < 4 → writes p (runs w input x n′ .log) ≡ writes p (runs w input y m .log)) → (k p : ℕ) → m ≤ k → p < 4 → Begins (written w input x n p) (written w input y k p)
+    unfolding written runs
+    far-enough x y n n′ m h e k p far four =
+        let before = writes-begin w input x (start zeros) n n′ p h in
+        let behind = writes-begin w input y (start zeros) m k p far in
+        begins-join _ _ _ _ before (e p four) behind
 
     first-begins : Follows w input t u
-    unfolding Follows written runs
+    unfolding Follows
     first-begins n =
-        let b = beyond n in (
-          b .edgesSecond,
-          λ k p far h. begins-join
-              _
-              _
-              _
-              _
-              (writes-begin w input t (start zeros) n (b .edgesFirst) p (b .farFirst))
-              (b .meets .writing p h)
-              (writes-begin w input u (start zeros) (b .edgesSecond) k p far),
-        )
+        let b = beyond n in
+        (b .edgesSecond, far-enough t u n (b .edgesFirst) (b .edgesSecond) (b .farFirst) (b .meets .writing))
 
     second-begins : Follows w input u t
-    unfolding Follows written runs
+    unfolding Follows
     second-begins n =
-        let b = beyond n in (
-          b .edgesFirst,
-          λ k p far h. begins-join
-              _
-              _
-              _
-              _
-              (writes-begin w input u (start zeros) n (b .edgesSecond) p (b .farSecond))
-              (sym (b .meets .writing p h))
-              (writes-begin w input t (start zeros) (b .edgesFirst) k p far),
-        )
+        let b = beyond n in
+        (b .edgesFirst, far-enough u t n (b .edgesSecond) (b .edgesFirst) (b .farSecond) (λ p h. sym (b .meets .writing p h)))
 
     -- Where one run has stopped, the other has where they meet.
 

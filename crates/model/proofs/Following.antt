@@ -1,19 +1,18 @@
 -- Following a path with symbols is sound, both ways round: a run that takes the path has its conditions true and its variables, reads
 -- and writes as the sums say; and where the conditions are true, the run takes the path. Assumes nothing.
-use Prim.Native.Nat.{ℕ, zero, suc, _+_, _*_, _^_, _≤_, _<_}
+use Prim.Native.Nat.{ℕ, zero, suc, _+_, _^_, _<_}
 use mathlib.Core.Path.{_≡_, refl, sym, _∙_, ap}
-use mathlib.Core.Logic.{_⊎_, inl, inr, ⊎-elim}
-use mathlib.Core.Bool.{Bool, true, false, cond, not, _&&_}
-use mathlib.Core.List.{List, [], _∷_, _++_, map, map-append, append-assoc, append-nil, List·Memᴰ, List·Memᴰ·head, List·Memᴰ·tail, List·Memᴰ·not-nil, List·Memᴰ·append-cases, List·Memᴰ·eq-of-singleton, Memᴰ·append-left, Memᴰ·append-right}
-use native.Mathlib.Omega.{arith}
-use lib.Dec.{leb, ltb, eqb}
-use lib.ListN.{length, getD, set}
+use mathlib.Core.Logic.{⊎-elim}
+use mathlib.Core.Bool.{Bool, true, false}
+use mathlib.Core.List.{List, [], _∷_, _++_, map, map-append, append-assoc, List·Memᴰ, List·Memᴰ·head, List·Memᴰ·not-nil, List·Memᴰ·append-cases, List·Memᴰ·eq-of-singleton, Memᴰ·append-left, Memᴰ·append-right}
+use lib.Dec.{ltb, eqb}
+use lib.ListN.{length, set}
 use borrow.Author.Tests.{ltb-true}
 use Rattle.model.specs.Word.{Kind, holds}
-use Rattle.model.specs.Expr.{Expr, value}
+use Rattle.model.specs.Expr.{Expr}
 use Rattle.model.specs.Table.{Action, assign, read, write, Edge, State, stop, step, test, Table}
 use Rattle.model.specs.Run.{Event, took, gave, tick, keepIf, reads, writes, Input, Config, at, act, actAll, fire, isStop, sideAt, edgeOn, next, after}
-use Rattle.model.specs.Sum.{Sum, Outcome, tooLarge, fits, andThen, sumOf, symbolSum, worth}
+use Rattle.model.specs.Sum.{Sum, fits, sumOf, symbolSum, worth}
 use Rattle.model.specs.Path.{allows, walkable, endState, Condition, Side, side, readSymbol, roomOn, followAction, followActions, followEdge, asked, follow}
 use Rattle.model.proofs.Basics.{clash, and-left, and-right, andThen-fits, cond-fits, fits-same}
 use Rattle.model.proofs.Runs.{reads-append}

@@ -3,32 +3,30 @@
 -- Assumes nothing.
 use Prim.Native.Nat.{ℕ, zero, suc, _+_, _-_, _*_, _/_, _%_, _^_, _≤_, _<_}
 use mathlib.Core.Path.{_≡_, refl, sym, _∙_, ap, ap₂}
-use mathlib.Core.Logic.{_⊎_, inl, inr, ⊎-elim}
 use mathlib.Core.Bool.{Bool, true, false, cond}
 use mathlib.Core.List.{List, [], _∷_, _++_, map, map-map, append-nil, List·Memᴰ, List·Memᴰ·head, List·Memᴰ·tail, List·Memᴰ·not-nil, Memᴰ·of-map}
 use native.Mathlib.Omega.{arith}
-use lib.Dec.{leb, ltb, eqb}
-use lib.Pow.{pow-pos}
-use lib.ListN.{length, getD, set, replicate, length-set, length-map, length-replicate}
+use lib.Dec.{ltb, eqb}
+use lib.ListN.{length, getD, length-set, length-map}
 use lib.Seq.{ext-getD}
 use borrow.Author.Tests.{eqb-true, lt-ltb, le-ltb}
-use Rattle.model.specs.Answer.{upTo, accepted}
-use Rattle.model.specs.Table.{Action, assign, read, write, Edge, State, Table}
-use Rattle.model.specs.Run.{Event, reads, writes, Input, Config, at, act, actAll, fire, isStop, sideAt, edgeOn, next, after, start, zeros}
-use Rattle.model.specs.Sum.{Sum, fits, symbolSum, worth, empty}
-use Rattle.model.specs.Path.{Rule11, Covered, rule11, begins, Side, side, readSymbol, follow, isNone, covers}
-use Rattle.model.specs.Correspondence.{Link, Path, Pair, pairs, pairAt}
-use Rattle.model.specs.Judgement.{partner, startSide, firstSide, secondSide, verdictAt}
+use Rattle.model.specs.Answer.{upTo}
+use Rattle.model.specs.Table.{Action, assign, read, write, Edge, Table}
+use Rattle.model.specs.Run.{Event, reads, writes, Input, Config, at, act, actAll, fire, isStop, next, after}
+use Rattle.model.specs.Sum.{fits, symbolSum, worth, empty}
+use Rattle.model.specs.Path.{Covered, rule11, endState, Side, side, readSymbol, follow, covers}
+use Rattle.model.specs.Correspondence.{Link, Path, pairs, pairAt}
+use Rattle.model.specs.Judgement.{partner, startSide, firstSide, secondSide}
 use Rattle.model.specs.Promise.{Words}
-use Rattle.model.proofs.Basics.{clash, length-upTo}
+use Rattle.model.proofs.Basics.{length-upTo}
 use Rattle.model.proofs.Words.{wrap-lt}
 use Rattle.model.proofs.Worth.{symbol-worth, variable-worth}
 use Rattle.model.proofs.Runs.{reads-append, writes-append}
 use Rattle.model.proofs.Following.{Matches, Values, AllHold, Takes, reads-worth, writes-worth, follow-end, follow-taken, follow-true}
 use Rattle.model.proofs.Coverage.{covers-covered, once-member}
-use Rattle.model.proofs.Walking.{sides, begins-taken, run-begins-once}
+use Rattle.model.proofs.Walking.{begins-taken, run-begins-once}
 use Rattle.model.proofs.Conditions.{contradiction, assured-hold}
-use Rattle.model.proofs.Accepted.{Refuted, Matched, PathRight, Judged}
+use Rattle.model.proofs.Accepted.{Refuted, Matched, Judged}
 
 -- A run keeps the number of its variables.
 
@@ -238,19 +236,11 @@ module _ (w : ℕ) (t u : Table) (list : List ℕ) (judged : (i : ℕ) → i < p
         let takes = follow-true w ρ input (d .log) values-second u (path .second) d (secondSide (pairAt list i)) (m .second) starts-second (m .walked) (m .followedSecond) assured in
         follow-taken w ρ input (d .log) values-second u (path .second) d (secondSide (pairAt list i)) (m .second) starts-second (m .followedSecond) nothing-second takes .0
 
-    state-first : c′ .state ≡ pairAt list (path .target) .first
-    unfolding firstSide startSide side
-    state-first =
-        ends-first .state
-        ∙ follow-end w ρ input (c .log) values-first t (path .first) (firstSide (pairAt list i)) (m .first) (m .followedFirst)
-        ∙ m .endsFirst
-
-    state-second : d′ .state ≡ pairAt list (path .target) .second
-    unfolding secondSide startSide side
-    state-second =
-        ends-second .state
-        ∙ follow-end w ρ input (d .log) values-second u (path .second) (secondSide (pairAt list i)) (m .second) (m .followedSecond)
-        ∙ m .endsSecond
+    -- A run that stands as a followed path says stands where the path's choices lead.
+    state-at : (x : Table) (bs : List Bool) (s : ℕ) (symbols : List ℕ) (before : List (Event ℕ)) (e : Config) (a : Side) → Values w ρ input before → Matches w ρ before e a → follow w x bs (startSide s symbols) ≡ fits a → e .state ≡ endState x s bs
+    unfolding startSide side
+    state-at x bs s symbols before e a good g f =
+        g .state ∙ follow-end w ρ input before good x bs (startSide s symbols) a f
 
     -- A variable at the end is worth its sum there.
     variable-at : (before : List (Event ℕ)) (e : Config) (a : Side) → Matches w ρ before e a → (v : ℕ) → getD (e .variables) v 0 ≡ worth w ρ (getD (a .environment) v empty)
@@ -269,12 +259,12 @@ module _ (w : ℕ) (t u : Table) (list : List ℕ) (judged : (i : ℕ) → i < p
 
     -- Both runs meet again at the path's target.
     meet-again : path .target < pairs list → Meet w list c′ d′ (path .target)
-    unfolding c′ d′
+    unfolding c′ d′ firstSide secondSide
     meet-again h =
         record {
           listed = h;
-          first = state-first;
-          second = state-second;
+          first = state-at t (path .first) _ _ _ c′ (m .first) values-first ends-first (m .followedFirst) ∙ m .endsFirst;
+          second = state-at u (path .second) _ _ _ d′ (m .second) values-second ends-second (m .followedSecond) ∙ m .endsSecond;
           linked = λ l n. variable-at _ _ _ ends-first (l .first) ∙ ap (worth w ρ) (m .linking l n) ∙ sym (variable-at _ _ _ ends-second (l .second));
           reading = λ p q. reads-at _ _ _ ends-first p ∙ ap₂ _+_ (meet .reading p q) (m .reading p q) ∙ sym (reads-at _ _ _ ends-second p);
           writing = λ p q. writes-at _ _ _ ends-first p ∙ ap₂ _++_ (meet .writing p q) (ap (map (worth w ρ)) (m .writing p q)) ∙ sym (writes-at _ _ _ ends-second p);

@@ -11,7 +11,7 @@ use lib.ListN.{length, drop, length-append, length-drop}
 use borrow.Author.Tests.{leb-true, eq-eqb}
 use Rattle.model.specs.Answer.{Reason, endStop, endLimit, endInput, endRoom, numberOf, sound, broken}
 use Rattle.model.specs.Table.{Action, assign, read, write, Edge, Table, states, tableOf, tableFault}
-use Rattle.model.specs.Run.{Event, took, gave, tick, reads, writes, Input, Config, at, act, actAll, fire, isStop, next, after, start, couples, coupleWords, given, enoughInput, enoughRoom, End, ended, runOn, runFault, trialOf, bufferOf, endOf, trial, trialBuffer}
+use Rattle.model.specs.Run.{Event, took, tick, reads, writes, Input, Config, at, act, actAll, fire, isStop, next, after, start, couples, coupleWords, given, enoughInput, enoughRoom, End, ended, runOn, runFault, trialOf, bufferOf, endOf, trial, trialBuffer}
 use Rattle.model.proofs.Basics.{each-port, then-first}
 use Rattle.model.proofs.Runs.{reads-append, after-next}
 use Rattle.model.proofs.CheckedTable.{ReadsPort, Within, checked-reset, checked-state}

@@ -2,8 +2,8 @@
 -- Assumes nothing.
 use Prim.Native.Nat.{ℕ, zero, suc}
 use mathlib.Core.Path.{_≡_, refl, sym, _∙_, ap, subst}
-use mathlib.Core.Bool.{Bool, true, false, cond, not, Bool·beq}
-use mathlib.Core.List.{List, [], _∷_, _++_, map, List·Memᴰ, List·Memᴰ·head, Memᴰ·append-left, Memᴰ·append-right, Memᴰ·map, Memᴰ·cast}
+use mathlib.Core.Bool.{Bool, true, false, cond, Bool·beq}
+use mathlib.Core.List.{List, [], _∷_, _++_, map, List·Memᴰ, List·Memᴰ·head, Memᴰ·append-left, Memᴰ·append-right, Memᴰ·map}
 use Rattle.model.specs.Table.{Edge, State, stop, step, test, Table}
 use Rattle.model.specs.Run.{Input, Config, at, fire, isStop, sideAt, edgeOn, next}
 use Rattle.model.specs.Path.{walksOf, walks, begins, beginnings, Covered}

@@ -1,17 +1,16 @@
 -- Laws of the chip's words, over the width: what wraps once wraps alike, differences and negations undo sums, every result is a word,
 -- the signed number loses nothing, and the three tests of a word against itself. Assumes nothing.
-use Prim.Native.Nat.{ℕ, zero, suc, _+_, _-_, _*_, _/_, _%_, _^_, _≤_, _<_}
+use Prim.Native.Nat.{ℕ, suc, _+_, _-_, _*_, _/_, _%_, _^_, _<_}
 use mathlib.Core.Path.{_≡_, refl, sym, _∙_, ap}
-use mathlib.Core.Logic.{_⊎_, inl, inr, ⊎-elim}
 use mathlib.Core.Bool.{Bool, true, false, cond}
-use native.Mathlib.Nat.{add-mod, mod-mod, mod-lt, mod-eq-of-lt, mod-self, zero-mod, add-mul-mod-self-left, mod-add-mod, add-mod-mod, div-add-mod, mod-eq-sub-mod, mul-comm, add-comm}
+use native.Mathlib.Nat.{add-mod, mod-mod, mod-lt, mod-eq-of-lt, mod-self, zero-mod, add-mul-mod-self-left, div-add-mod, mul-comm}
 use native.Mathlib.Omega.{arith}
-use lib.Dec.{ltb, eqb, leb, T, eqb-refl}
+use lib.Dec.{ltb, eqb, T, eqb-refl}
 use lib.Pow.{pow-pos}
 use lib.IntN.{ℤ, pos, negsuc}
 use lib.Signed.{ltZ}
-use borrow.Author.Tests.{ltb-true, ltb-false, le-ltb}
-use Rattle.model.specs.Word.{wrap, plus, minus, times, negated, signed, Kind, equal, signedLess, unsignedLess, holds}
+use borrow.Author.Tests.{le-ltb}
+use Rattle.model.specs.Word.{wrap, plus, minus, times, negated, signed, equal, signedLess, unsignedLess, holds}
 
 -- Two numbers are alike at a width when they wrap to the same word.
 pub record Alike (w a b : ℕ) : Type 0 where

@@ -1,17 +1,17 @@
 -- Sums are sound modulo 2^w: each operation on sums is worth the operation on words of what its operands are worth, and the normal
 -- sum of an expression is worth the expression's value. It needs no sum to be normal. Assumes nothing.
-use Prim.Native.Nat.{ℕ, zero, suc, _+_, _*_, _^_, _≤_, _<_}
+use Prim.Native.Nat.{ℕ, _+_, _*_, _^_, _<_}
 use mathlib.Core.Path.{_≡_, refl, sym, _∙_, ap}
 use mathlib.Core.Bool.{Bool, true, false, cond}
 use mathlib.Core.List.{List, [], _∷_, _++_, map}
-use native.Mathlib.Nat.{mul-comm, mul-assoc, mul-one}
+use native.Mathlib.Nat.{mul-comm}
 use native.Mathlib.Omega.{arith}
 use lib.Dec.{leb, eqb}
 use lib.ListN.{length, getD, List·getD-map}
 use borrow.Author.Tests.{eqb-true}
 use Rattle.model.specs.Word.{wrap, plus, minus, times, negated}
 use Rattle.model.specs.Expr.{Expr, constant, variable, sum, difference, product, negation, value}
-use Rattle.model.specs.Sum.{Term, Sum, Outcome, tooLarge, fits, andThen, same, precedes, keep, insert, collect, fit, empty, constantSum, symbolSum, add, negateTerm, negate, subtract, place, merge, termProduct, products, multiply, sumOf, powers, total, worth}
+use Rattle.model.specs.Sum.{Term, Sum, Outcome, tooLarge, fits, andThen, same, precedes, keep, insert, collect, empty, constantSum, symbolSum, add, negateTerm, negate, subtract, place, merge, termProduct, products, multiply, sumOf, powers, total, worth}
 use Rattle.model.proofs.Basics.{same-symbols, andThen-fits, cond-fits, fits-same, fit-fits}
 use Rattle.model.proofs.Words.{Alike, alike-same, alike-sym, _⨾_, alike-wrap, alike-plus, alike-times, wrap-zero, wrap-word, negated-undoes, undone-by, minus-is}
 

@@ -1,7 +1,7 @@
 -- What the programs answer: the numbers of document 01 in one place, the answer "a number, which image and a record", and the one
 -- mechanism by which every area of records is checked, "the first broken rule is named". Assumes nothing.
 use Prim.Native.Nat.{ℕ, zero, suc}
-use mathlib.Core.Bool.{Bool, true, false, cond, _&&_}
+use mathlib.Core.Bool.{Bool, true, cond, _&&_}
 use mathlib.Core.List.{List, [], _∷_}
 use lib.Dec.{leb, ltb, eqb}
 use lib.ListN.{getD}

@@ -1,7 +1,7 @@
 -- The correspondence image: its rules 6 to 9 in order, and the pairs that it holds with their links and paths.
 -- 01, "The correspondence". Assumes nothing.
 use Prim.Native.Nat.{ℕ, zero, suc, _+_, _*_, _^_}
-use mathlib.Core.Bool.{Bool, true, false}
+use mathlib.Core.Bool.{Bool}
 use mathlib.Core.List.{List, [], _∷_, _++_, map}
 use lib.Dec.{eqb}
 use lib.ListN.{length}

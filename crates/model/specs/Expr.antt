@@ -6,7 +6,7 @@ use Prim.Native.Nat.{ℕ, zero, suc, _+_}
 use mathlib.Core.Bool.{Bool, true, false, cond}
 use mathlib.Core.List.{List, [], _∷_}
 use lib.Dec.{leb}
-use lib.ListN.{length, getD, take, drop}
+use lib.ListN.{getD, take, drop}
 use Rattle.model.specs.Word.{wrap, plus, minus, times, negated}
 
 pub data Expr : Type 0 where

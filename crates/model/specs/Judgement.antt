@@ -1,16 +1,15 @@
 -- The judgement: rules 10 to 19, and the verdict on three images. 01, "What the program answers". Assumes nothing.
-use Prim.Native.Nat.{ℕ, zero, suc, _+_}
-use mathlib.Core.Path.{_≡_}
+use Prim.Native.Nat.{ℕ, _+_}
 use mathlib.Core.Bool.{Bool, true, false, cond, not, _&&_, _||_, Bool·beq}
 use mathlib.Core.List.{List, [], _∷_, map}
 use mathlib.Core.Option.{Option, none, some}
-use lib.Dec.{leb, eqb}
+use lib.Dec.{eqb}
 use lib.ListN.{length, getD}
-use Rattle.model.specs.Answer.{Answer, accepted, Fault, sound, broken, _then_, firstOf, upTo, check, Rule, is, le, so, inImage, stopsDiffer, notCovered, doesNotFollow, overSize, overTests, noContradiction, notAssured, readsDiffer, writesDiffer, linkNotKept}
+use Rattle.model.specs.Answer.{Answer, accepted, Fault, broken, _then_, firstOf, upTo, check, le, so, inImage, stopsDiffer, notCovered, doesNotFollow, overSize, overTests, noContradiction, notAssured, readsDiffer, writesDiffer, linkNotKept}
 use Rattle.model.specs.Word.{base, wrap, Kind, equal, kindNumber, holds}
 use Rattle.model.specs.Table.{Table, tableOf, tableFault, states}
 use Rattle.model.specs.Run.{reads, writes, isStop, eachPort}
-use Rattle.model.specs.Sum.{Term, Sum, empty, symbolSum, sameSum, same, Outcome, tooLarge, fits, andThen}
+use Rattle.model.specs.Sum.{Sum, empty, symbolSum, sameSum, same, Outcome, tooLarge, fits}
 use Rattle.model.specs.Path.{isNone, walkable, endState, rule11, Condition, Side, side, follow}
 use Rattle.model.specs.Correspondence.{Link, Path, Pair, pairs, pairAt, listFault}
 

@@ -6,8 +6,8 @@ use mathlib.Core.Path.{_≡_}
 use mathlib.Core.Logic.{_⊎_}
 use mathlib.Core.Bool.{Bool, true, false, cond, not, _&&_, Bool·beq}
 use mathlib.Core.List.{List, [], _∷_, _++_, map, tail, List·Memᴰ}
-use lib.Dec.{leb, ltb, eqb}
-use lib.ListN.{length, getD, set}
+use lib.Dec.{ltb, eqb}
+use lib.ListN.{length, set}
 use Rattle.model.specs.Word.{Kind}
 use Rattle.model.specs.Table.{Action, assign, read, write, Edge, State, stop, step, test, Table}
 use Rattle.model.specs.Run.{Event, took, gave, reads, writes, tick, isStop, edgeOn}

@@ -2,11 +2,11 @@
 -- 01, "How a table runs": "Every expression on an edge uses the values before that edge; reads and writes happen in listed order;
 -- a port's k-th read takes its k-th word." Assumes nothing.
 use Prim.Native.Nat.{ℕ, zero, suc, _/_, _%_}
-use mathlib.Core.Bool.{Bool, true, false, cond, not, _&&_}
+use mathlib.Core.Bool.{Bool, true, false, cond, _&&_}
 use mathlib.Core.List.{List, [], _∷_, _++_}
 use lib.Dec.{leb, eqb}
 use lib.ListN.{length, getD, set, drop, replicate}
-use Rattle.model.specs.Answer.{Reason, endStop, endLimit, endInput, endRoom, wrongInput, numberOf, Fault, sound, broken, _then_, check, Rule, is, so}
+use Rattle.model.specs.Answer.{Reason, endStop, endLimit, endInput, endRoom, wrongInput, numberOf, Fault, sound, broken, _then_, check, is, so}
 use Rattle.model.specs.Word.{holds}
 use Rattle.model.specs.Expr.{value}
 use Rattle.model.specs.Table.{Action, assign, read, write, Edge, State, stop, step, test, Table, tableFault, tableOf}

@@ -1,6 +1,6 @@
 -- Normal sums: what they are, how they are added, subtracted, negated and multiplied, when one is too large, the normal sum of
 -- an expression, and what a sum is worth. 01, "The normal sum". Assumes nothing.
-use Prim.Native.Nat.{ℕ, zero, suc, _+_, _*_, _^_, _≤_, _<_}
+use Prim.Native.Nat.{ℕ, _+_, _*_, _^_, _≤_, _<_}
 use mathlib.Core.Path.{_≡_}
 use mathlib.Core.Bool.{Bool, true, false, cond, _&&_, _||_}
 use mathlib.Core.List.{List, [], _∷_, _++_, map}

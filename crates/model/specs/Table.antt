@@ -3,7 +3,7 @@
 -- what it says of an image that is refused is of no account. Assumes nothing.
 use Prim.Native.Nat.{ℕ, zero, suc, _+_, _*_}
 use mathlib.Core.Bool.{Bool, true, false, cond, not, _&&_, _||_}
-use mathlib.Core.List.{List, [], _∷_, _++_, map}
+use mathlib.Core.List.{List, [], _∷_, map}
 use lib.Dec.{eqb}
 use lib.ListN.{length, take, drop}
 use Rattle.model.specs.Answer.{Fault, sound, broken, _then_, firstOf, upTo, Rule, le, lt, is, so, check, word, wrongTable, wrongState, wrongAction, wrongEdge, wrongExpression}
