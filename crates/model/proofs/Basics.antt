@@ -1,7 +1,7 @@
 -- Laws that all other proofs use: what a passed test says, members of lists, what it means that no fault was found, and that what
 -- fits comes from parts that fit. Assumes nothing.
 use Prim.Native.Nat.{ℕ, zero, suc, _+_, _≤_, _<_}
-use mathlib.Core.Path.{_≡_, refl, _∙_, ap}
+use mathlib.Core.Path.{_≡_, refl, sym, _∙_, ap}
 use mathlib.Core.Logic.{_⊎_, inl, inr, ⊎-elim}
 use mathlib.Core.Bool.{Bool, true, false, cond, _&&_, _||_, Bool·beq}
 use mathlib.Core.List.{List, [], _∷_, List·Memᴰ, List·Memᴰ·head, List·Memᴰ·tail, List·Memᴰ·cases-cons, List·Memᴰ·not-nil}
@@ -205,3 +205,7 @@ unfolding fit
 fit-fits s e =
     let h = cond-fits (leb (length s) 16) (fits s) e in
     (leb-true (length s) 16 (h .0), fits-same (h .1))
+
+-- Two answers that equal one thing are equal: every contract that is an equation has one answer.
+pub one-answer : {A : Type 0} {x r r′ : A} → r ≡ x → r′ ≡ x → r ≡ r′
+one-answer p q = p ∙ sym q

@@ -1,7 +1,6 @@
 -- `word::times` is the definition at width 32: the whole product has 64 bits. Assumes nothing.
-use Prim.Native.Nat.{ℕ, _*_, _<_, _^_, _%_}
+use Prim.Native.Nat.{ℕ, _*_, _<_, _^_}
 use native.Mathlib.Nat.{mul-lt-mul-of-pos-right, mul-le-mul-left, le-of-lt, lt-of-le-of-lt}
-use native.Mathlib.Omega.{arith}
 use lib.Pow.{pow-pos}
 use borrow.Author.Needs.{needs}
 use Rattle.model.specs.Word.{wrap, times}
