@@ -34,13 +34,15 @@ sub-result c = less-fits (c .before .args .x) (omega arith)
 
 returns : tie.Need-returns
 unfolding signed
-returns c = rw (lt-ltb _ _ (c .if1 .taken)) (whole (c .before .args .x) (omega arith))
+returns c =
+    let x = c .before .args .x in
+    rw (lt-ltb x 2147483648 (omega arith)) (whole x (omega arith))
 
 returns-2 : tie.Need-returns-2
 unfolding signed
 returns-2 c =
     let x = c .before .args .x in
-    rw (le-ltb _ _ (c .if1 .left)) (toZ-ofZ (less-fits x (omega arith)) ∙ less x (omega arith))
+    rw (le-ltb x 2147483648 (omega arith)) (toZ-ofZ (less-fits x (omega arith)) ∙ less x (omega arith))
 
 pub signed-spec : {M : Type 1} → statement M
 signed-spec = tie.close (tie.spec cast-result cast-result-2 sub-result returns returns-2)
