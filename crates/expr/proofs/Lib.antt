@@ -1,0 +1,4 @@
+pub mod Reading
+pub mod Extents
+pub mod Values
+pub mod Unique
