@@ -8,12 +8,11 @@ use native.Mathlib.Omega.{arith}
 use native.Mathlib.Nat.{sub-zero}
 use native.Mathlib.Numerals.{one-add}
 use lib.Dec.{leb}
-use lib.ListN.{length, getD, take, drop, length-take, length-drop}
+use lib.ListN.{length, getD, take, drop, length-take, length-drop, drop-of-length-le}
 use lib.Seq.{take-all}
 use borrow.Author.Tests.{le-leb, lt-leb}
-use Rattle.model.specs.Word.{base}
-use Rattle.model.specs.Expr.{Expr, constant, variable, sum, difference, product, negation, value, Code, constants, variables, unknown, one, two, codeOf, Reading, malformed, parsed, andRead, readAs, readWith, readAt}
-use Rattle.expr.specs.Answers.{reading, joinedBy}
+use Rattle.model.specs.Expr.{Expr, constant, variable, sum, difference, product, negation, Code, constants, variables, unknown, one, two, codeOf, Reading, malformed, parsed, andRead, readAs, readWith, readAt}
+use Rattle.expr.specs.Answers.{reading}
 
 -- What `&l[a..]` computes to, and what it is.
 abbrev pub from : ℕ → List ℕ → List ℕ
@@ -212,18 +211,22 @@ two-parsed ws op {l} {r} {n} {m} h k p q =
 
 -- The code words of two operands, and of one.
 
-pub record Two (x : ℕ) : Type 0 where
+-- The operation of a code word of two operands. What a function f makes of a sum, a difference and a product out of what it makes of
+-- the operands, g makes by the code word.
+pub record Two (x : ℕ) : Type 1 where
   pub op : Expr → Expr → Expr
   pub is : codeOf x ≡ two op
-  pub worth : (vs : List ℕ) (l r : Expr) → value base vs (op l r) ≡ joinedBy x (value base vs l) (value base vs r)
+  pub by : {A : Type 0} (f : Expr → A) (g : ℕ → A → A → A) → ((l r : Expr) → f (sum l r) ≡ g 2 (f l) (f r))
+      → ((l r : Expr) → f (difference l r) ≡ g 3 (f l) (f r)) → ((l r : Expr) → f (product l r) ≡ g 4 (f l) (f r))
+      → (l r : Expr) → f (op l r) ≡ g x (f l) (f r)
 
 pub code-two : (x : ℕ) → 2 ≤ x → x < 5 → Two x
-unfolding codeOf value joinedBy
+unfolding codeOf
 code-two zero h k = absurd (omega arith)
 code-two (suc zero) h k = absurd (omega arith)
-code-two (suc (suc zero)) h k = record { op = sum; is = refl; worth = λ vs l r. refl }
-code-two (suc (suc (suc zero))) h k = record { op = difference; is = refl; worth = λ vs l r. refl }
-code-two (suc (suc (suc (suc zero)))) h k = record { op = product; is = refl; worth = λ vs l r. refl }
+code-two (suc (suc zero)) h k = record { op = sum; is = refl; by = λ f g s d p. s }
+code-two (suc (suc (suc zero))) h k = record { op = difference; is = refl; by = λ f g s d p. d }
+code-two (suc (suc (suc (suc zero)))) h k = record { op = product; is = refl; by = λ f g s d p. p }
 code-two (suc (suc (suc (suc (suc x))))) h k = absurd (omega arith)
 
 pub code-one : (x : ℕ) → x ≡ 5 → codeOf x ≡ one negation
@@ -238,3 +241,21 @@ shown ws = sym (enough 64 (take 64 ws) (simp length-take (omega arith)))
 
 pub shown-whole : (ws : List ℕ) → length ws ≤ 64 → reading ws ≡ readAt ws 0
 shown-whole ws h = rw (take-all 64 ws h) at (shown ws)
+
+-- The words behind a start, and a start outside the area.
+
+pub shown-from : (start : ℕ) (code : List ℕ) → readAt (from start code) 0 ≡ readAt code start
+unfolding readAt
+shown-from start code = rw from-drop
+
+pub shown-outside : (start : ℕ) (code : List ℕ) → length code ≤ start → readAt code start ≡ malformed
+unfolding readAt readWith
+shown-outside start code h = rw (drop-of-length-le code h)
+
+-- What was read there ends inside the area, and has at most 64 words.
+pub shown-within : (start : ℕ) (code : List ℕ) {e : Expr} {n : ℕ} → readAt code start ≡ parsed e n
+    → (1 ≤ n) × (n ≤ 64) × (n ≤ length code - start)
+unfolding readAt Within
+shown-within start code {e} {n} q =
+    let h : Within (length (take 64 (drop start code))) (parsed e n) = rw q at (within-with 64 (take 64 (drop start code))) in
+    omega (arith, simp (length-take, length-drop) at (h .1), h .0)

@@ -1,11 +1,11 @@
 -- What a value says of the reading that it stands for, and the value of each reading. Assumes nothing.
-use Prim.Native.Nat.{ℕ, _+_, _-_, _^_, _≤_, _<_}
-use mathlib.Core.Path.{_≡_, refl, sym}
+use Prim.Native.Nat.{ℕ, _-_, _^_, _≤_, _<_}
+use mathlib.Core.Path.{_≡_, refl}
 use mathlib.Core.List.{List}
 use native.Mathlib.Omega.{arith}
 use lib.ListN.{length, getD}
 use Rattle.model.specs.Word.{base, wrap, negated}
-use Rattle.model.specs.Expr.{Expr, constant, variable, negation, value, Reading, malformed, parsed}
+use Rattle.model.specs.Expr.{Expr, constant, variable, negation, value, Reading, malformed, parsed, treeOf}
 use Rattle.expr.specs.Answers.{reading, joinedBy, valuedOf}
 use Rattle.expr.specs.declared.answers.Valued.{Valued}
 use Rattle.expr.specs.declared.answers.Valued.the-variants.{Malformed, Value}
@@ -51,4 +51,16 @@ module _ (vs : List ℕ) where
 
   pub joined-word : {code : ℕ} (two : Two code) (l r : Expr) {a b w : ℕ} → w ≡ joinedBy code a b → a ≡ value base vs l → b ≡ value base vs r
       → w ≡ value base vs (two .op l r)
-  joined-word two l r e h k = rw (two .worth vs l r, ← h, ← k) e
+  unfolding value joinedBy
+  joined-word two l r e h k =
+      rw (two .by (value base vs) joinedBy (λ x y. refl) (λ x y. refl) (λ x y. refl) l r, ← h, ← k) e
+
+  -- The word of the tree that was read, which is 0 for malformed words.
+
+  pub tree-none : (p : Reading) {r : Valued} → r ≡ valuedOf vs p → r ≡ Malformed → 0 ≡ value base vs (treeOf p)
+  unfolding value wrap treeOf
+  tree-none p e k = rw (valued-malformed p e k)
+
+  pub tree-word : (p : Reading) {r : Valued} {w n : ℕ} → r ≡ valuedOf vs p → r ≡ Value w n → w ≡ value base vs (treeOf p)
+  unfolding treeOf
+  tree-word p e k = let h = valued-value p e k in rw (h .1) (h .2)

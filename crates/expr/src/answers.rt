@@ -1,3 +1,5 @@
+// The answers of this crate. They stand in a module of their own, since a function `extent` and an enum `Extent` may not share one.
+
 // How far an expression extends: it is malformed, or uses so many words.
 pub enum Extent {
     Malformed,

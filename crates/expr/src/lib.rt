@@ -16,7 +16,7 @@ pub const WORDS: usize = 64;
 // The last variable.
 pub const LAST_VARIABLE: u32 = 15;
 
-// The extent of the expression at the front of the words.
+// The extent of the expression at the front of the words: one that does not end in the first 64 is malformed.
 pub fn extent(words: &[u32]) -> Extent
     ensures { λ r. ⌜ r ≡ extentOf (readAt (now (words .entry)) 0) ⌝ }
 {
@@ -26,7 +26,8 @@ pub fn extent(words: &[u32]) -> Extent
     read(&words[..WORDS])
 }
 
-// The extent of the expression at the front of all words, however many they are: an operand is what is left behind the words before it.
+// The extent of the expression at the front of the words, however many they are. Each operand is read in turn, the right one from
+// where the left one ends; it has fewer words, so the depth is at most their number.
 fn read(words: &[u32]) -> Extent
     ensures { λ r. ⌜ r ≡ extentOf (reading (now (words .entry))) ⌝ }
 {
@@ -69,7 +70,7 @@ fn read(words: &[u32]) -> Extent
     }
 }
 
-// The value of the expression at the front of the words, at the variables.
+// The value of the expression at the front of the words, at the variables, with its extent.
 pub fn value(words: &[u32], variables: &[u32; 16]) -> Valued
     ensures { λ r. ⌜ r ≡ valuedOf (now (variables .entry)) (readAt (now (words .entry)) 0) ⌝ }
 {
@@ -79,7 +80,7 @@ pub fn value(words: &[u32], variables: &[u32; 16]) -> Valued
     evaluate(&words[..WORDS], variables)
 }
 
-// The value of the expression at the front of all words, however many they are.
+// The value of the expression at the front of the words, however many they are, read as `read` does.
 fn evaluate(words: &[u32], variables: &[u32; 16]) -> Valued
     ensures { λ r. ⌜ r ≡ valuedOf (now (variables .entry)) (reading (now (words .entry))) ⌝ }
 {
@@ -140,7 +141,7 @@ fn evaluate(words: &[u32], variables: &[u32; 16]) -> Valued
     }
 }
 
-// Two words joined by the operation of a code word.
+// Two words joined by the operation of a code word: 2 sum, 3 difference, 4 product.
 fn joined(code: u32, left: u32, right: u32) -> u32
     ensures { λ r. ⌜ r ≡ joinedBy code left right ⌝ }
 {

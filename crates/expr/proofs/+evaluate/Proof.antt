@@ -1,5 +1,5 @@
 -- `expr::evaluate` is the value of the model's reading. Its cycle of calls is itself; the measure is the number of words. Assumes nothing.
-use Prim.Native.Nat.{ℕ, _+_, _<_, _≤_}
+use Prim.Native.Nat.{ℕ, _+_, _-_, _<_, _≤_}
 use lib.ListN.{length, getD}
 use native.Mathlib.Omega.{arith}
 use borrow.Author.Needs.{needs}
@@ -25,6 +25,11 @@ at t = and 2 kinds.ps (is 2 kinds.ps μ t) reads.Pre
 
 abbrev below : ℕ → In 2 kinds.ps
 below t = and 2 kinds.ps (falls 2 kinds.ps _<_ μ t) reads.Pre
+
+-- The left operand ends with the words or before.
+left-within : (t : ℕ) (c : lts.After-known-told2 (below t, reads.Post, negated.Asked, negated.Learnt, joined.Asked, joined.Learnt) (at t) reads.Post)
+    → c .before .left .given .0 .1 .0 ≤ length (c .before .before .before .before .before .before .before .before .before .before .args .words .now) - 1
+left-within t c = operand-within _ 1 (c .before .before .before .before .before .before .before .before .before .before .args .words .now) (c .before .before .before .evaluate2 .ensures) (c .before .left .given .1)
 
 module _ (t : ℕ) where
   returns : lts.Need-returns (below t, reads.Post, negated.Asked, negated.Learnt, joined.Asked, joined.Learnt) (at t) reads.Post
@@ -100,16 +105,16 @@ module _ (t : ℕ) where
   enum-known-left c = search needs
 
   add-at : lts.Need-add-at (below t, reads.Post, negated.Asked, negated.Learnt, joined.Asked, joined.Learnt) (at t) reads.Post
-  add-at c = omega (arith, operand-within (c .before .before .before .before .before .before .before .before .before .before .args .variables .now) 1 (c .before .before .before .before .before .before .before .before .before .before .args .words .now) (c .before .before .before .evaluate2 .ensures) (c .before .left .given .1))
+  add-at c = omega (arith, left-within t c)
 
   mul-evaluate : lts.Need-mul-evaluate (below t, reads.Post, negated.Asked, negated.Learnt, joined.Asked, joined.Learnt) (at t) reads.Post
-  mul-evaluate c = omega (arith, operand-within (c .before .before .before .before .before .before .before .before .before .before .args .variables .now) 1 (c .before .before .before .before .before .before .before .before .before .before .args .words .now) (c .before .before .before .evaluate2 .ensures) (c .before .left .given .1))
+  mul-evaluate c = omega (arith, left-within t c)
 
   sub-evaluate-3 : lts.Need-sub-evaluate-3 (below t, reads.Post, negated.Asked, negated.Learnt, joined.Asked, joined.Learnt) (at t) reads.Post
-  sub-evaluate-3 c = omega (arith, operand-within (c .before .before .before .before .before .before .before .before .before .before .args .variables .now) 1 (c .before .before .before .before .before .before .before .before .before .before .args .words .now) (c .before .before .before .evaluate2 .ensures) (c .before .left .given .1))
+  sub-evaluate-3 c = omega (arith, left-within t c)
 
   part-evaluate-start-3 : lts.Need-part-evaluate-start-3 (below t, reads.Post, negated.Asked, negated.Learnt, joined.Asked, joined.Learnt) (at t) reads.Post
-  part-evaluate-start-3 c = omega (arith, operand-within (c .before .before .before .before .before .before .before .before .before .before .args .variables .now) 1 (c .before .before .before .before .before .before .before .before .before .before .args .words .now) (c .before .before .before .evaluate2 .ensures) (c .before .left .given .1))
+  part-evaluate-start-3 c = omega (arith, left-within t c)
 
   part-evaluate-end-3 : lts.Need-part-evaluate-end-3 (below t, reads.Post, negated.Asked, negated.Learnt, joined.Asked, joined.Learnt) (at t) reads.Post
   part-evaluate-end-3 c = search needs
@@ -129,7 +134,7 @@ module _ (t : ℕ) where
   add-t55 : lts.Need-add-t55 (below t, reads.Post, negated.Asked, negated.Learnt, joined.Asked, joined.Learnt) (at t) reads.Post
   add-t55 c =
       let at = 1 + c .before .before .before .before .before .before .before .left .given .0 .1 .0 in
-      omega (arith, operand-within (c .before .before .before .before .before .before .before .before .before .before .before .before .before .before .before .before .args .variables .now) 1 (c .before .before .before .before .before .before .before .before .before .before .before .before .before .before .before .before .args .words .now) (c .before .before .before .before .before .before .before .before .before .evaluate2 .ensures) (c .before .before .before .before .before .before .before .left .given .1), operand-within (c .before .before .before .before .before .before .before .before .before .before .before .before .before .before .before .before .args .variables .now) at (c .before .before .before .before .before .before .before .before .before .before .before .before .before .before .before .before .args .words .now) (c .before .before .before .before .evaluate3 .ensures) (c .before .before .right .given .1))
+      omega (arith, left-within t (c .before .before .before .before .before .before), operand-within (c .before .before .before .before .before .before .before .before .before .before .before .before .before .before .before .before .args .variables .now) at (c .before .before .before .before .before .before .before .before .before .before .before .before .before .before .before .before .args .words .now) (c .before .before .before .before .evaluate3 .ensures) (c .before .before .right .given .1))
 
   returns-5 : lts.Need-returns-5 (below t, reads.Post, negated.Asked, negated.Learnt, joined.Asked, joined.Learnt) (at t) reads.Post
   returns-5 c = value-is _ (reads-constant _ (c .before .if2 .left) (c .before .before .match .keys1)) (constant-word _ (omega (arith, c .shared-slice-known3 .given 1)))
