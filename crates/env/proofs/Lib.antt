@@ -1,0 +1,4 @@
+pub mod Reading
+pub mod Storing
+pub mod Stored
+pub mod Unique

@@ -1,0 +1,37 @@
+-- How one array of 528 numbers holds the sums of sixteen variables: 33 numbers each, the count of terms and then sixteen couples of
+-- a coefficient and its packed symbols. A count over 16 is read as 16. Assumes nothing.
+use Prim.Native.Nat.{ℕ, zero, suc, _+_, _*_, _-_, min}
+use mathlib.Core.Bool.{cond}
+use mathlib.Core.List.{List, [], _∷_, _++_, map}
+use lib.Dec.{ltb}
+use lib.ListN.{length, getD, take, drop, replicate}
+use Rattle.model.specs.Answer.{upTo}
+use Rattle.sum.specs.declared.Term.{Term}
+
+-- The n terms whose couples begin at place k.
+unfoldable pub termsFrom : List ℕ → ℕ → ℕ → List Term
+termsFrom words k zero = []
+termsFrom words k (suc n) =
+    let later = termsFrom words (k + 2) n in
+    record { coef = getD words k 0; mono = getD words (k + 1) 0 } ∷ later
+
+-- The sum of variable v.
+unfoldable pub sumAt : List ℕ → ℕ → List Term
+sumAt words v = termsFrom words (33 * v + 1) (min (getD words (33 * v) 0) 16)
+
+-- The sums of the sixteen variables in turn.
+unfoldable pub sumsOf : List ℕ → List (List Term)
+sumsOf words = map (sumAt words) (upTo 0 16)
+
+-- The coefficient and the packed symbols of each term in turn.
+unfoldable pub couples : List Term → List ℕ
+couples [] = []
+couples (t ∷ l) = t .coef ∷ t .mono ∷ couples l
+
+-- The 33 numbers of a list of at most 16 terms: its length, its couples, and zeros.
+unfoldable pub flat : List Term → List ℕ
+flat l = length l ∷ couples l ++ replicate (32 - 2 * length l) 0
+
+-- The numbers with the sum of variable v replaced; a variable of 16 and more has no place, and nothing changes.
+unfoldable pub storedIn : List ℕ → ℕ → List Term → List ℕ
+storedIn words v l = cond (ltb v 16) (take (33 * v) words ++ flat l ++ drop (33 * v + 33) words) words

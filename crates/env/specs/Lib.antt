@@ -1,0 +1,2 @@
+-- Sixteen sums as the numbers of one array.
+pub mod Env

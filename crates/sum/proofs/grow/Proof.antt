@@ -1,0 +1,50 @@
+-- `sum::grow` collects the product of two terms. Assumes nothing.
+use native.Mathlib.Omega.{arith}
+use borrow.Author.Needs.{needs}
+use Rattle.model.specs.Word.{base}
+use Rattle.sum.specs.Packed.{grownOf, sizedOf, gathered}
+use Rattle.sum.proofs.Product.{product-none, product-large, product-one}
+use Rattle.sum.proofs.grow.Statement.{statement}
+use Rattle.sum.proofs.grow.Tie as tie
+
+times-requires : tie.Need-times-requires
+times-requires c κs = search needs
+
+returns : tie.Need-returns
+unfolding grownOf sizedOf
+returns c = (product-none base (c .before .before .args .t) (c .before .before .args .u) (gathered (c .before .before .args .g)) _ (c .before .times .ensures) (c .if1 .taken), omega arith)
+
+merge-requires : tie.Need-merge-requires
+merge-requires c κs = search needs
+
+enum-told : tie.Need-enum-told
+enum-told c = search needs
+
+enum-known-mono : tie.Need-enum-known-mono
+enum-known-mono c = search needs
+
+insert-requires : tie.Need-insert-requires
+insert-requires c κs = search needs
+
+returns-2 : tie.Need-returns-2
+unfolding grownOf sizedOf
+returns-2 c =
+    (product-large base (c .before .before .before .before .before .args .t) (c .before .before .before .before .before .args .u) (gathered (c .before .before .before .before .before .args .g)) _ _ (c .before .before .before .before .times .ensures) (c .before .before .before .if1 .left) (c .before .before .merge .ensures) (c .enum-told .given .1), omega arith)
+
+returns-3 : tie.Need-returns-3
+unfolding grownOf sizedOf
+returns-3 c =
+    (product-one base (c .before .before .before .before .before .before .before .args .t) (c .before .before .before .before .before .before .before .args .u) (gathered (c .before .before .before .before .before .before .before .args .g)) (gathered (c .insert .result)) _ _ _ (c .before .before .before .before .before .before .times .ensures) (c .before .before .before .before .before .if1 .left) (c .before .before .before .before .merge .ensures) (c .before .before .mono .given .1) (c .insert .ensures .0), c .insert .ensures .1)
+
+pub grow-spec : {M : Type 1} → statement M
+grow-spec =
+    tie.close
+    (tie.spec
+    times-requires
+    returns
+    merge-requires
+    enum-told
+    enum-known-mono
+    insert-requires
+    returns-2
+    returns-3)
