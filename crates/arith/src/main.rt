@@ -176,6 +176,38 @@ fn multiplied(rounds: u32) -> u32 {
     total
 }
 
+// Each variable as its symbol.
+fn symbols() -> Env {
+    let mut env = Env::empty();
+    let mut v = 0;
+    let mut x = 0;
+    while v < 16 {
+        env = env.set(v, Sum::symbol(key::symbol(x)));
+        x = word::plus(x, 1);
+        v += 1;
+    }
+    env
+}
+
+fn formed(rounds: u32) -> u32 {
+    let env = symbols();
+    let words = EXPRESSION;
+    let mut total = 0;
+    let mut i = 0;
+    while i < rounds {
+        let r = expr::normal_sum(&words, &env.words);
+        let form = r.form;
+        let s = r.sum;
+        match form {
+            expr::Form::Malformed => {}
+            expr::Form::TooLarge => total = word::plus(total, 1),
+            expr::Form::Fits => total = word::plus(total, check(s)),
+        }
+        i += 1;
+    }
+    total
+}
+
 fn valued(rounds: u32) -> u32 {
     let mut variables = [1, 2, 3, 4, 5, 6, 7, 8, 9, 10, 11, 12, 13, 14, 15, 16];
     let words = EXPRESSION;
@@ -202,6 +234,7 @@ fn work(which: u32, rounds: u32) {
     match which {
         0 => show(added(rounds)),
         1 => show(multiplied(rounds)),
+        2 => show(formed(rounds)),
         _ => show(valued(rounds)),
     }
 }
@@ -210,6 +243,7 @@ fn main() {
     if os::arg_count() < 3 {
         work(0, 10);
         work(1, 10);
+        work(2, 10);
         work(3, 10);
         return;
     }

@@ -11,3 +11,18 @@ pub enum Valued {
     Malformed,
     Value { word: u32, used: usize },
 }
+
+// Whether the words are malformed, and otherwise whether the normal sum fits.
+pub enum Form {
+    Malformed,
+    TooLarge,
+    Fits,
+}
+
+// The normal sum of an expression: how many words it uses, 0 exactly where they are malformed, and the sum, which is empty unless it
+// fits.
+pub struct Normal {
+    pub form: Form,
+    pub used: usize,
+    pub sum: sum::Sum,
+}

@@ -1,13 +1,22 @@
-// Expressions in prefix code words: how far one extends, and its value. 0 then a constant; 1 then a variable; 2 sum, 3 difference,
+// Expressions in prefix code words: how far one extends, its value, and its normal sum. 0 then a constant; 1 then a variable; 2 sum, 3 difference,
 // 4 product, each followed by two expressions; 5 negation, followed by one; at most 64 words. Each contract is the reading of
 // `model`, malformed words included. Assumes nothing.
 ghost use mathlib.Core.Path.{_≡_};
 ghost use Rattle.model.specs.Expr.{readAt};
+ghost use Rattle.sum.specs.Packed.{termsOf, addedOf};
+ghost use Rattle.env.specs.Env.{sumsOf};
+ghost use Rattle.model.specs.Sum.{tooLarge};
 ghost use Rattle.expr.specs.Answers.{reading, extentOf, valuedOf, joinedBy};
+ghost use Rattle.expr.specs.Normals.{malformedForm, formed, normalOf, fittingForm, sizedForm, combinedBy, joinedForms, negatedForm};
+use sum::Added;
+use sum::Size;
+use sum::Sum;
 
 mod answers;
 
 pub use answers::Extent;
+pub use answers::Form;
+pub use answers::Normal;
 pub use answers::Valued;
 
 // The most words that an expression may have.
@@ -149,5 +158,152 @@ fn joined(code: u32, left: u32, right: u32) -> u32
         2 => word::plus(left, right),
         3 => word::minus(left, right),
         _ => word::times(left, right),
+    }
+}
+
+// The normal sum of the expression at the front of the words, with its extent. The environment is the numbers of crate `env`.
+pub fn normal_sum(words: &[u32], env: &[u32; 528]) -> Normal
+    ensures { λ r. ⌜ r ≡ normalOf (sumsOf (now (env .entry))) (readAt (now (words .entry)) 0) ⌝ }
+{
+    if words.len() <= WORDS {
+        return form(words, env);
+    }
+    form(&words[..WORDS], env)
+}
+
+// The normal sum of the expression at the front of the words, however many they are. A sum that is too large is passed up, and the
+// words behind it are still read, so that malformed ones are found.
+fn form(words: &[u32], env: &[u32; 528]) -> Normal
+    ensures { λ r. ⌜ r ≡ normalOf (sumsOf (now (env .entry))) (reading (now (words .entry))) ⌝ }
+{
+    if words.len() == 0 {
+        return malformed_form();
+    }
+    let code = words[0];
+    match code {
+        0 => {
+            if words.len() < 2 {
+                return malformed_form();
+            }
+            let constant = words[1];
+            fitting(2, Sum::constant(constant))
+        }
+        1 => {
+            if words.len() < 2 {
+                return malformed_form();
+            }
+            let variable = words[1];
+            if variable <= LAST_VARIABLE {
+                let at = variable as usize;
+                return fitting(2, env::get(env, at));
+            }
+            malformed_form()
+        }
+        2 | 3 | 4 => {
+            let left = form(&words[1..], env);
+            let taken = left.used;
+            if taken == 0 {
+                return malformed_form();
+            }
+            let at = 1 + taken;
+            let right = form(&words[at..], env);
+            let used = at + right.used;
+            joined_forms(code, used, left, right)
+        }
+        5 => {
+            let operand = form(&words[1..], env);
+            let used = 1 + operand.used;
+            negated_form(used, operand)
+        }
+        _ => malformed_form(),
+    }
+}
+
+// The answer for malformed words.
+fn malformed_form() -> Normal
+    ensures { λ r. ⌜ r ≡ malformedForm ⌝ }
+{
+    Normal {
+        form: Form::Malformed,
+        used: 0,
+        sum: Sum::empty(),
+    }
+}
+
+// The answer for words whose sum is too large.
+fn too_large(used: usize) -> Normal
+    ensures { λ r. ⌜ r ≡ formed used tooLarge ⌝ }
+{
+    Normal {
+        form: Form::TooLarge,
+        used: used,
+        sum: Sum::empty(),
+    }
+}
+
+// The answer for words whose sum fits.
+fn fitting(used: usize, sum: Sum) -> Normal
+    ensures { λ r. ⌜ r ≡ fittingForm used sum ⌝ }
+{
+    Normal {
+        form: Form::Fits,
+        used: used,
+        sum: sum,
+    }
+}
+
+// The answer for words whose sum an operation gave.
+fn sized(used: usize, added: Added) -> Normal
+    ensures { λ r. ⌜ r ≡ sizedForm used added ⌝ }
+{
+    let size = added.size;
+    match size {
+        Size::TooLarge => too_large(used),
+        Size::Fits => fitting(used, added.sum),
+    }
+}
+
+// Two sums joined by the operation of a code word: 2 sum, 3 difference, 4 product.
+fn combined(code: u32, left: Sum, right: Sum) -> Added
+    ensures { λ r. ⌜ r ≡ addedOf (combinedBy code (termsOf left) (termsOf right)) ⌝ }
+{
+    match code {
+        2 => left.add(right),
+        3 => left.subtract(right),
+        _ => left.multiply(right),
+    }
+}
+
+// The answer for two operands, the first of which was read: malformed where the second is, else too large where either is.
+fn joined_forms(code: u32, used: usize, left: Normal, right: Normal) -> Normal
+    ensures { λ r. ⌜ r ≡ joinedForms code used left right ⌝ }
+{
+    let second = right.form;
+    match second {
+        Form::Malformed => malformed_form(),
+        Form::TooLarge => too_large(used),
+        Form::Fits => {
+            let first = left.form;
+            match first {
+                Form::Malformed => too_large(used),
+                Form::TooLarge => too_large(used),
+                Form::Fits => sized(used, combined(code, left.sum, right.sum)),
+            }
+        }
+    }
+}
+
+// The answer for a negated operand.
+fn negated_form(used: usize, operand: Normal) -> Normal
+    ensures { λ r. ⌜ r ≡ negatedForm used operand ⌝ }
+{
+    let form = operand.form;
+    match form {
+        Form::Malformed => malformed_form(),
+        Form::TooLarge => too_large(used),
+        Form::Fits => {
+            let sum = operand.sum;
+            fitting(used, sum.negate())
+        }
     }
 }
