@@ -1,6 +1,6 @@
 -- What an answer with a normal sum says of the reading that it stands for, and the answer of each reading. Where each sum of the
 -- environment has at most 16 terms, so has each sum that fits, and a struct holds it whole. Assumes nothing.
-use Prim.Native.Nat.{ℕ, _+_, _*_, _-_, _≤_, _<_, min}
+use Prim.Native.Nat.{ℕ, _+_, _*_, _-_, _≤_, min}
 use mathlib.Core.Path.{_≡_, refl, sym, ap, _∙_}
 use mathlib.Core.Bool.{Bool, true, false, cond}
 use mathlib.Core.List.{List, [], _∷_}
@@ -15,16 +15,15 @@ use Rattle.sum.specs.declared.Term.{Term}
 use Rattle.sum.specs.declared.Sum.{Sum}
 use Rattle.sum.specs.declared.Added.{Added}
 use Rattle.sum.specs.declared.Size.the-variants as sizes
-use Rattle.sum.specs.Packed.{keepK, collectK, fitK, constantK, addK, subtractK, multiplyK, productsK, termProductK, negateTermK, negateK, termsOf, asSum, addedOf}
+use Rattle.sum.specs.Packed.{keepK, collectK, fitK, constantK, addK, subtractK, multiplyK, productsK, termProductK, negateK, termsOf, asSum, addedOf}
 use Rattle.sum.proofs.Held.{terms-as}
 use Rattle.env.specs.Env.{sumAt, sumsOf}
 use Rattle.env.proofs.Reading.{length-terms, sums-at, sums-past}
-use Rattle.expr.specs.declared.answers.Form.{Form}
 use Rattle.expr.specs.declared.answers.Form.the-variants.{Malformed, TooLarge, Fits}
 use Rattle.expr.specs.declared.answers.Normal.{Normal}
 use Rattle.expr.specs.Answers.{reading}
 use Rattle.expr.specs.Normals.{sumOfK, malformedForm, formed, fittingForm, sizedAs, sizedForm, normalOf, combinedBy, outcomeAs, outcomeOf, unlessMalformed, joinedForms, negatedForm}
-use Rattle.expr.proofs.Reading.{from, length-from, uses-within, shown-within, Two, one-malformed, one-parsed, left-malformed, right-malformed, two-parsed, code-one}
+use Rattle.expr.proofs.Reading.{from, length-from, uses-within, shown-within, Two, one-malformed, one-parsed, right-malformed, two-parsed, code-one}
 
 -- At most 16 terms, where they fit.
 

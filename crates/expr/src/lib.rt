@@ -1,11 +1,11 @@
-// Expressions in prefix code words: how far one extends, its value, and its normal sum. 0 then a constant; 1 then a variable; 2 sum, 3 difference,
-// 4 product, each followed by two expressions; 5 negation, followed by one; at most 64 words. Each contract is the reading of
-// `model`, malformed words included. Assumes nothing.
+// Expressions in prefix code words: how far one extends, its value, and its normal sum in an environment of sums. 0 then a constant;
+// 1 then a variable; 2 sum, 3 difference, 4 product, each followed by two expressions; 5 negation, followed by one; at most 64
+// words. Each contract is the reading of `model`, malformed words included. Assumes nothing.
 ghost use mathlib.Core.Path.{_≡_};
 ghost use Rattle.model.specs.Expr.{readAt};
+ghost use Rattle.model.specs.Sum.{tooLarge};
 ghost use Rattle.sum.specs.Packed.{termsOf, addedOf};
 ghost use Rattle.env.specs.Env.{sumsOf};
-ghost use Rattle.model.specs.Sum.{tooLarge};
 ghost use Rattle.expr.specs.Answers.{reading, extentOf, valuedOf, joinedBy};
 ghost use Rattle.expr.specs.Normals.{malformedForm, formed, normalOf, fittingForm, sizedForm, combinedBy, joinedForms, negatedForm};
 use sum::Added;

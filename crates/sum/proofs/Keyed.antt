@@ -3,16 +3,17 @@
 use Prim.Native.Nat.{ℕ, _+_, _≤_, _<_}
 use mathlib.Core.Path.{_≡_, refl}
 use mathlib.Core.Bool.{cond}
-use mathlib.Core.List.{List, [], _∷_}
+use mathlib.Core.List.{List, [], _∷_, map}
 use native.Mathlib.Omega.{arith}
 use lib.Dec.{leb, ltb, eqb}
-use lib.ListN.{length}
-use Rattle.model.specs.Sum.{Sum, fits, same, sameSum, precedes, Rising, constantSum, symbolSum, add, negate, subtract, merge, multiply}
+use lib.ListN.{length, length-map}
+use Rattle.model.specs.Sum.{Sum, fits, same, sameSum, precedes, Rising, Terms, constantSum, symbolSum, add, negate, subtract, merge, multiply}
 use Rattle.model.proofs.Normal.{merge-rising, merge-length}
 use Rattle.key.specs.Key.{Small, pack, packOn, mergedOf}
 use Rattle.key.specs.declared.Merged.the-variants.{TooMany, Packed}
 use Rattle.key.proofs.Pack.{pack-same, pack-order, pack-merged, merge-small}
-use Rattle.sum.specs.Packed.{constantK, symbolK, addK, negateK, subtractK, multiplyK, sameK, packSum, packOutcome}
+use Rattle.sum.specs.Packed.{constantK, symbolK, addK, negateK, subtractK, multiplyK, sameK, termsOf, asSum, packTerm, packSum, packOutcome}
+use Rattle.sum.proofs.Held.{terms-as}
 use Rattle.sum.proofs.Paper as Paper
 
 -- A list of symbols that `key` packs: each below 127, at most 4, in rising order.
@@ -42,6 +43,20 @@ merges l m h k n =
 -- Every term of a sum has symbols that `key` packs.
 abbrev pub Keyed : Sum → Type 0
 Keyed s = Paper.AllPack Packable s
+
+-- The terms of a normal sum have such symbols, if each symbol is below 127.
+pub normal-keyed : (w : ℕ) (s : Sum) → Terms w s → Paper.AllPack Small s → Keyed s
+unfolding Terms Paper.AllPack
+normal-keyed w [] k h = tt
+normal-keyed w (t ∷ s) k h =
+    (record { small = h .0; short = k .0 .short; rising = k .0 .rising }, normal-keyed w s (k .2) (h .1))
+
+-- At most 16 terms that are packed into a struct come out packed.
+pub held-terms : (s : Sum) → length s ≤ 16 → termsOf (asSum (packSum pack s)) ≡ packSum pack s
+unfolding packSum
+held-terms s h =
+    let k : length (map (packTerm pack) s) ≤ 16 = simp length-map h in
+    terms-as _ k
 
 -- Each operation, and that what it gives has such symbols again.
 

@@ -1,5 +1,5 @@
 // Normal sums as the code holds them: at most 16 terms, each a coefficient and its symbols packed into one number. Sums are added,
-// subtracted, negated and compared. Each contract is an equation on the whole answer with the definitions of specs/Packed; a count
+// subtracted, negated, multiplied and compared. Each contract is an equation on the whole answer with the definitions of specs/Packed; a count
 // over 16 is read as 16, and entries past the count of a result are zero. Assumes nothing.
 ghost use mathlib.Core.Path.{_≡_};
 ghost use mathlib.Core.List.{[], _∷_, _++_};

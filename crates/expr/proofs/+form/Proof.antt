@@ -1,5 +1,5 @@
 -- `expr::form` is the normal sum of the model's reading. Its cycle of calls is itself; the measure is the number of words. Assumes nothing.
-use Prim.Native.Nat.{ℕ, _+_, _-_, _<_, _≤_}
+use Prim.Native.Nat.{ℕ, _+_, _<_}
 use lib.ListN.{length, getD}
 use native.Mathlib.Omega.{arith}
 use borrow.Author.Needs.{needs}
