@@ -144,13 +144,15 @@ placeOf m (u ∷ s) =
     let later = placeOf m s in
     cond (ltb (u .mono) m) (suc later) 0
 
--- The packed form of a term, of a sum and of an outcome, by a function that packs a list of symbols.
+-- A term of the paper with its symbols packed, by a function that packs lists of symbols.
 unfoldable pub packTerm : (List ℕ → ℕ) → Model.Term → Term
 packTerm pack t = record { coef = t .coefficient; mono = pack (t .symbols) }
 
+-- A sum of the paper, packed term by term.
 unfoldable pub packSum : (List ℕ → ℕ) → Model.Sum → List Term
 packSum pack s = map (packTerm pack) s
 
+-- What an operation of the paper gives, packed.
 unfoldable pub packOutcome : (List ℕ → ℕ) → Outcome Model.Sum → Outcome (List Term)
 packOutcome pack tooLarge = tooLarge
 packOutcome pack (fits s) = fits (packSum pack s)
