@@ -43,10 +43,10 @@ sized-requires : tie.Need-sized-requires
 sized-requires c κs = search needs
 
 returns : tie.Need-returns
-returns c = c .malformed-form .ensures ∙ sym (joined-malformed _ _ _ _ (c .before .enum-told .given .1))
+returns c = c .malformed-form .ensures ∙ sym (joined-malformed _ _ _ (c .before .before .before .args .right) (c .before .enum-told .given .1))
 
 returns-2 : tie.Need-returns-2
-returns-2 c = c .too-large .ensures ∙ sym (joined-large _ _ _ _ (c .before .enum-told2 .given .1))
+returns-2 c = c .too-large .ensures ∙ sym (joined-large _ _ _ (c .before .before .before .args .right) (c .before .enum-told2 .given .1))
 
 returns-3 : tie.Need-returns-3
 returns-3 c = c .too-large2 .ensures ∙ sym (joined-none _ _ _ _ (c .before .before .before .enum-told3 .given .1) (c .before .enum-told4 .given .1))
