@@ -1,7 +1,6 @@
 // Works the sums and expressions that bench/arith measures, and prints a check number that plain Rust must print too.
 // `arith WHICH ROUNDS`: 0 a 16-term sum plus a 16-term sum, 1 an 8 by 8 product, 2 the normal sum and 3 the value of a 63-word
 // expression. With no arguments each is worked 10 times.
-use env::Env;
 use libc::STDOUT_FILENO;
 use sum::Size;
 use sum::Sum;
@@ -176,21 +175,12 @@ fn multiplied(rounds: u32) -> u32 {
     total
 }
 
-// Each variable as its symbol.
-fn symbols() -> Env {
-    let mut env = Env::empty();
-    let mut v = 0;
-    let mut x = 0;
-    while v < 16 {
-        env = env.set(v, Sum::symbol(key::symbol(x)));
-        x = word::plus(x, 1);
-        v += 1;
-    }
-    env
-}
+// The symbols of the sixteen variables.
+const SYMBOLS: [u32; 16] = [0, 1, 2, 3, 4, 5, 6, 7, 8, 9, 10, 11, 12, 13, 14, 15];
 
 fn formed(rounds: u32) -> u32 {
-    let env = symbols();
+    let symbols = SYMBOLS;
+    let env = env::symbols(&symbols);
     let words = EXPRESSION;
     let mut total = 0;
     let mut i = 0;

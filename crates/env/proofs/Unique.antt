@@ -4,6 +4,7 @@ use mathlib.Core.Path.{_≡_, sym, _∙_}
 use Rattle.env.proofs.get.Reads as get
 use Rattle.env.proofs.Env.empty.Reads as empty
 use Rattle.env.proofs.Env.set.Reads as set
+use Rattle.env.proofs.symbols.Reads as symbols
 
 -- A variable has one sum.
 pub get-unique : (κs : _) (a : _) (r r′ : _) (s s′ : _) → get.Post κs a r s → get.Post κs a r′ s′ → r ≡ r′
@@ -16,3 +17,7 @@ empty-unique κs a r r′ s s′ p q = λ i. record { words = (p ∙ sym q) i }
 -- A sum is stored in one way.
 pub set-unique : (κs : _) (a : _) (r r′ : _) (s s′ : _) → set.Post κs a r s → set.Post κs a r′ s′ → r ≡ r′
 set-unique κs a r r′ s s′ p q = λ i. record { words = (p ∙ sym q) i }
+
+-- A list of symbols makes one environment.
+pub symbols-unique : (κs : _) (a : _) (r r′ : _) (s s′ : _) → symbols.Post κs a r s → symbols.Post κs a r′ s′ → r ≡ r′
+symbols-unique κs a r r′ s s′ p q = λ i. record { words = (p ∙ sym q) i }

@@ -6,7 +6,9 @@ use mathlib.Core.List.{List, [], _∷_, _++_, map}
 use lib.Dec.{ltb}
 use lib.ListN.{length, getD, take, drop, replicate}
 use Rattle.model.specs.Answer.{upTo}
+use Rattle.key.specs.Key.{symbolOf}
 use Rattle.sum.specs.declared.Term.{Term}
+use Rattle.sum.specs.Packed.{symbolK}
 
 -- The n terms whose couples begin at place k.
 unfoldable pub termsFrom : List ℕ → ℕ → ℕ → List Term
@@ -35,3 +37,12 @@ flat l = length l ∷ couples l ++ replicate (32 - 2 * length l) 0
 -- The numbers with the sum of variable v replaced; a variable of 16 and more has no place, and nothing changes.
 unfoldable pub storedIn : List ℕ → ℕ → List Term → List ℕ
 storedIn words v l = cond (ltb v 16) (take (33 * v) words ++ flat l ++ drop (33 * v + 33) words) words
+
+-- The numbers with n variables, from v on, each as its symbol of a list.
+unfoldable pub symbolsFrom : List ℕ → List ℕ → ℕ → ℕ → List ℕ
+symbolsFrom list words v zero = words
+symbolsFrom list words v (suc n) = symbolsFrom list (storedIn words v (symbolK (symbolOf (getD list v 0)))) (suc v) n
+
+-- The numbers of an environment in which each variable is its symbol of a list.
+unfoldable pub symbolWords : List ℕ → List ℕ
+symbolWords list = symbolsFrom list (replicate 528 0) 0 16

@@ -5,7 +5,7 @@ ghost use mathlib.Core.List.{[]};
 ghost use Prim.Native.Nat.{min};
 ghost use lib.ListN.{getD, replicate};
 ghost use Rattle.sum.specs.Packed.{termsOf, asSum};
-ghost use Rattle.env.specs.Env.{sumsOf, storedIn};
+ghost use Rattle.env.specs.Env.{sumsOf, storedIn, symbolWords};
 use sum::Sum;
 use sum::Term;
 
@@ -97,4 +97,18 @@ pub fn get(words: &[u32; 528], v: usize) -> Sum
         i += 1;
     }
     Sum { n: n, terms: ts }
+}
+
+// The environment in which each variable is its symbol of the list.
+pub fn symbols(list: &[u32; 16]) -> Env
+    ensures { λ r. ⌜ r .words ≡ symbolWords (now (list .entry)) ⌝ }
+{
+    let mut env = Env::empty();
+    let mut v = 0;
+    while v < Env::SUMS {
+        let x = list[v];
+        env = env.set(v, Sum::symbol(key::symbol(x)));
+        v += 1;
+    }
+    env
 }

@@ -1,6 +1,5 @@
 // P1 to P10 of the paper's bench, worked out with the proved crates: the terms of each normal sum, coefficient and then symbols, or
 // that it is too large; and the tests. What it prints is held to the file stdout.
-use env::Env;
 use libc::STDOUT_FILENO;
 use sum::Sum;
 use word::Kind;
@@ -46,22 +45,13 @@ fn say_sum(s: Sum) {
     }
 }
 
-// Each variable as its symbol.
-fn symbols() -> Env {
-    let mut env = Env::empty();
-    let mut v = 0;
-    let mut x = 0;
-    while v < 16 {
-        env = env.set(v, Sum::symbol(key::symbol(x)));
-        x = word::plus(x, 1);
-        v += 1;
-    }
-    env
-}
+// The symbols of the sixteen variables.
+const SYMBOLS: [u32; 16] = [0, 1, 2, 3, 4, 5, 6, 7, 8, 9, 10, 11, 12, 13, 14, 15];
 
 // The normal sum of an expression.
 fn normal(name: &[u8], words: &[u32]) {
-    let env = symbols();
+    let symbols = SYMBOLS;
+    let env = env::symbols(&symbols);
     let r = expr::normal_sum(words, &env.words);
     let form = r.form;
     let s = r.sum;
