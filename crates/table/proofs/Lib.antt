@@ -1,0 +1,4 @@
+pub mod Rules
+pub mod Areas
+pub mod Records
+pub mod Unique
