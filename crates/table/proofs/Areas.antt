@@ -1,11 +1,11 @@
 -- Along the records of an area, and along the actions of an edge. Assumes nothing.
-use Prim.Native.Nat.{ℕ, zero, suc, _+_, _-_, _<_, _≤_}
+use Prim.Native.Nat.{ℕ, suc, _+_, _-_, _<_, _≤_}
 use mathlib.Core.Path.{_≡_, refl, sym, _∙_, ap}
 use mathlib.Core.Bool.{Bool, true, false, not, _&&_, _||_}
 use mathlib.Core.List.{List, [], _∷_, map}
 use native.Mathlib.Omega.{arith}
 use lib.Dec.{eqb}
-use Rattle.model.specs.Answer.{Fault, sound, broken, _then_, firstOf, upTo}
+use Rattle.model.specs.Answer.{Fault, _then_, firstOf, upTo}
 use Rattle.model.specs.Table.{Action, assign, read, write, variablesSet, member, distinct}
 use Rattle.table.specs.Checks.{checkedOf, setOf, apartFrom}
 use Rattle.table.specs.declared.Checked.{Checked}

@@ -2,22 +2,21 @@
 -- give, each from what was read and tested. Assumes nothing.
 use Prim.Native.Nat.{ℕ, zero, suc, _+_, _-_, _*_, _≤_, _<_}
 use mathlib.Core.Path.{_≡_, refl, sym, _∙_, ap}
-use mathlib.Core.Bool.{Bool, true, false, cond}
+use mathlib.Core.Bool.{Bool, true, false}
 use mathlib.Core.List.{List, [], _∷_, map}
 use native.Mathlib.Omega.{arith}
 use lib.Dec.{leb, ltb, eqb}
 use lib.ListN.{length, take, drop, drop-of-length-le, length-drop}
 use lib.Seq.{take-all, take-nil}
 use borrow.Author.Tests.{leb-true, leb-false, ltb-true, ltb-false, eqb-true, eqb-false}
-use Rattle.model.specs.Answer.{Reason, Fault, sound, broken, numberOf, _then_, firstOf, upTo, Rule, le, lt, is, so, kept, allKept, check, word, wrongState, wrongAction, wrongEdge, wrongTable}
+use Rattle.model.specs.Answer.{Fault, sound, broken, numberOf, _then_, firstOf, upTo, Rule, le, lt, is, so, kept, allKept, check, word, wrongState, wrongAction, wrongEdge, wrongTable}
 use Rattle.model.specs.Expr.{isParsed, readAt}
-use Rattle.model.specs.Table.{Action, assign, read, write, states, edges, actions, codeArea, startFault, stateRules, stateStarts, stateWord, stateFault, actionRules, actionStarts, actionWord, actionFault, actionOf, actionAt, edgeWord, edgeAt, edgeFault, variablesSet, distinct, headerRules, tableFault}
+use Rattle.model.specs.Table.{read, states, edges, actions, codeArea, startFault, stateRules, stateStarts, stateWord, stateFault, actionRules, actionStarts, actionWord, actionFault, actionOf, actionAt, edgeWord, edgeAt, edgeFault, variablesSet, distinct, headerRules, tableFault}
 use Rattle.expr.proofs.Reading.{from, from-drop, length-from}
 use Rattle.table.specs.Checks.{checkedOf, edgeRules, setOf, faultIn}
 use Rattle.table.specs.declared.Checked.{Checked}
 use Rattle.table.specs.declared.Checked.the-variants.{Sound, Broken}
 use Rattle.table.specs.declared.Area.the-variants.{States, Actions, Edges}
-use Rattle.table.specs.declared.Set.{Set}
 use Rattle.table.specs.declared.Set.the-variants.{Nothing, Variable}
 use Rattle.table.proofs.Rules.{all-kept, not-kept, decided, refused, passed, first-broken, first-sound, facts-kept}
 

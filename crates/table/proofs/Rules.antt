@@ -1,12 +1,12 @@
 -- Rules of a record, decided in code: where all facts hold the rules are kept, where they cannot all hold they are not; and what then
 -- is answered. Assumes nothing.
-use Prim.Native.Nat.{ℕ, zero, suc, _-_, _≤_}
-use mathlib.Core.Path.{_≡_, refl, sym, _∙_, ap}
-use mathlib.Core.Bool.{Bool, true, false, cond}
+use Prim.Native.Nat.{ℕ}
+use mathlib.Core.Path.{_≡_, refl, sym, _∙_}
+use mathlib.Core.Bool.{Bool, true, false}
 use mathlib.Core.List.{List, [], _∷_}
 use native.Mathlib.Omega.{arith}
 use borrow.Author.Tests.{le-leb, lt-ltb, eq-eqb}
-use Rattle.model.specs.Answer.{Reason, wrongTable, Fault, sound, broken, numberOf, _then_, firstOf, Rule, le, lt, is, so, kept, allKept, check}
+use Rattle.model.specs.Answer.{Reason, wrongTable, Fault, sound, broken, numberOf, _then_, Rule, le, lt, is, so, kept, allKept, check}
 use Rattle.model.proofs.Basics.{Fact, Facts, and-both, check-facts}
 use Rattle.table.specs.Checks.{checkedOf}
 use Rattle.table.specs.declared.Checked.{Checked}

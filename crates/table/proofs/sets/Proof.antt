@@ -1,5 +1,4 @@
 -- `table::sets` is whether one of the model's actions sets the variable: what is left has it where all have it. Assumes nothing.
-use Prim.Native.Nat.{_+_, _^_, _<_}
 use native.Mathlib.Omega.{arith}
 use Rattle.model.specs.Table.{actionAt}
 use Rattle.table.proofs.Areas.{Seeking, seek-start, seek-found, seek-step, seek-end}
