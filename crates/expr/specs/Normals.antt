@@ -34,14 +34,16 @@ unfoldable pub formed : ℕ → Outcome (List Term) → Normal
 formed n tooLarge = record { form = TooLarge; used = n; sum = asSum [] }
 formed n (fits l) = record { form = Fits; used = n; sum = asSum l }
 
--- The answer for a sum that fits, and for what an operation gave.
+-- The answer for a sum that fits.
 unfoldable pub fittingForm : ℕ → Sum → Normal
 fittingForm n s = record { form = Fits; used = n; sum = s }
 
+-- The answer for a sum of the size that an operation gave.
 unfoldable pub sizedAs : ℕ → Size → Sum → Normal
 sizedAs n sizes.TooLarge s = record { form = TooLarge; used = n; sum = asSum [] }
 sizedAs n sizes.Fits s = fittingForm n s
 
+-- The answer for what an operation gave.
 unfoldable pub sizedForm : ℕ → Added → Normal
 sizedForm n a = sizedAs n (a .size) (a .sum)
 

@@ -77,12 +77,14 @@ pub data Rule : Type 0 where
   le lt is : ℕ → ℕ → Rule
   so : Bool → Rule
 
+-- Whether a rule is kept.
 unfoldable pub kept : Rule → Bool
 kept (le a b) = leb a b
 kept (lt a b) = ltb a b
 kept (is a b) = eqb a b
 kept (so b) = b
 
+-- Whether all rules of a list are kept.
 unfoldable pub allKept : List Rule → Bool
 allKept [] = true
 allKept (r ∷ rs) = kept r && allKept rs

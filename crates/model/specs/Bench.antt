@@ -21,16 +21,20 @@ Says (normal e s) = sumOf base (map symbolSum (upTo 0 16)) e ≡ s
 Says (tested k a b r) = holds base k a b ≡ r
 Says (judged first second list a) = verdict first second list ≡ a
 
+-- What all examples of a list say.
 abbrev pub SayAll : List Example → Type 0
 SayAll [] = Unit {0}
 SayAll (e ∷ es) = Says e × SayAll es
 
+-- Variable 0.
 abbrev pub x : Expr
 x = variable 0
 
+-- Variable 1.
 abbrev pub y : Expr
 y = variable 1
 
+-- A coefficient with its symbols.
 abbrev pub term : ℕ → List ℕ → Term
 term c l = record { coefficient = c; symbols = l }
 
@@ -39,9 +43,11 @@ abbrev pub sumWith : List ℕ → Expr → Expr
 sumWith [] e = e
 sumWith (v ∷ vs) e = sum (variable v) (sumWith vs e)
 
+-- A table of one stop (P11).
 abbrev pub oneStop : List ℕ
 oneStop = 1 ∷ 15 ∷ 1 ∷ 10 ∷ 0 ∷ 15 ∷ 0 ∷ 15 ∷ 0 ∷ 15 ∷ 0 ∷ 0 ∷ 0 ∷ 0 ∷ 0 ∷ []
 
+-- Its correspondence.
 abbrev pub oneStopList : List ℕ
 oneStopList = 2 ∷ 14 ∷ 1 ∷ 8 ∷ 0 ∷ 14 ∷ 0 ∷ 14 ∷ 0 ∷ 0 ∷ 0 ∷ 0 ∷ 0 ∷ 0 ∷ []
 
@@ -71,6 +77,7 @@ meter =
     1 ∷ 53 ∷ 2 ∷ 10 ∷ 3 ∷ 20 ∷ 5 ∷ 29 ∷ 9 ∷ 44 ∷ 1 ∷ 0 ∷ 0 ∷ 0 ∷ 0 ∷ 3 ∷ 0 ∷ 2 ∷ 1 ∷ 2 ∷ 1 ∷ 0 ∷ 1 ∷ 0 ∷ 1 ∷ 2 ∷ 0
     ∷ 3 ∷ 2 ∷ 1 ∷ 0 ∷ 0 ∷ 2 ∷ 1 ∷ 4 ∷ 2 ∷ 0 ∷ 6 ∷ 2 ∷ 1 ∷ 2 ∷ 2 ∷ 0 ∷ 0 ∷ 1 ∷ 0 ∷ 0 ∷ 0 ∷ 0 ∷ 1 ∷ 5 ∷ 1 ∷ 0 ∷ []
 
+-- K.
 abbrev pub meterList : List ℕ
 meterList =
     2 ∷ 26 ∷ 1 ∷ 8 ∷ 0 ∷ 14 ∷ 2 ∷ 14 ∷ 0 ∷ 0 ∷ 0 ∷ 0 ∷ 0 ∷ 2 ∷ 2 ∷ 2 ∷ 2 ∷ 2 ∷ 0 ∷ 0 ∷ 2 ∷ 0 ∷ 2 ∷ 0 ∷ 0 ∷ 0 ∷ []

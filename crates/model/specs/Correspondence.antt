@@ -29,21 +29,27 @@ pub record Pair : Type 0 where
   pub links : List Link
   pub paths : List Path
 
+-- How many pairs the header counts.
 unfoldable pub pairs : List ℕ → ℕ
 pairs image = word image 2
 
+-- How many links.
 unfoldable pub links : List ℕ → ℕ
 links image = word image 4
 
+-- How many paths.
 unfoldable pub paths : List ℕ → ℕ
 paths image = word image 6
 
+-- Where the links begin.
 unfoldable pub linksAt : List ℕ → ℕ
 linksAt image = 8 + 6 * pairs image
 
+-- Where the paths begin.
 unfoldable pub pathsAt : List ℕ → ℕ
 pathsAt image = linksAt image + 2 * links image
 
+-- The header's rules.
 unfoldable pub listRules : List ℕ → List Rule
 listRules image =
     is (word image 0) 2 ∷ is (word image 1) (length image)
@@ -54,15 +60,18 @@ listRules image =
 
 -- Links: first's variable, second's variable.
 
+-- The link that a record holds.
 unfoldable pub linkAt : List ℕ → ℕ → Link
 linkAt image i =
     record { first = word image (linksAt image + 2 * i); second = word image (linksAt image + 2 * i + 1) }
 
+-- A link's variables are at most 15.
 unfoldable pub linkFault : List ℕ → ℕ → Fault
 linkFault image i = check wrongLink i (le (linkAt image i .first) 15 ∷ le (linkAt image i .second) 15 ∷ [])
 
 -- Paths: edges in the first, its choices, edges in the second, its choices, target pair, mark.
 
+-- Word k of path i.
 unfoldable pub pathWord : List ℕ → ℕ → ℕ → ℕ
 pathWord image i k = word image (pathsAt image + 6 * i + k)
 
@@ -75,12 +84,14 @@ unfoldable pub markRules : ℕ → ℕ → ℕ → ℕ → ℕ → List Rule
 markRules p zero n x target = lt target p ∷ sideRules n x
 markRules p (suc m) n x target = is m 0 ∷ is n 0 ∷ is x 0 ∷ is target 0 ∷ []
 
+-- The rules of a path, refused together.
 unfoldable pub pathFault : List ℕ → ℕ → Fault
 pathFault image i =
     check wrongPath i
     (sideRules (pathWord image i 0) (pathWord image i 1)
     ++ markRules (pairs image) (pathWord image i 5) (pathWord image i 2) (pathWord image i 3) (pathWord image i 4))
 
+-- The path that a record holds.
 unfoldable pub pathAt : List ℕ → ℕ → Path
 pathAt image i =
     record {
@@ -93,9 +104,11 @@ pathAt image i =
 
 -- Pairs: first's state, second's state, first link, link count, first path, path count.
 
+-- Word k of pair i.
 unfoldable pub pairWord : List ℕ → ℕ → ℕ → ℕ
 pairWord image i k = word image (8 + 6 * i + k)
 
+-- The pair that a record holds, with its links and paths.
 unfoldable pub pairAt : List ℕ → ℕ → Pair
 pairAt image i =
     record {

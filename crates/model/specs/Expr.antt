@@ -9,6 +9,7 @@ use lib.Dec.{leb}
 use lib.ListN.{getD, take, drop}
 use Rattle.model.specs.Word.{wrap, plus, minus, times, negated}
 
+-- An expression.
 pub data Expr : Type 0 where
   constant variable : ℕ → Expr
   sum difference product : Expr → Expr → Expr
@@ -29,6 +30,7 @@ pub data Code : Type 0 where
   one : (Expr → Expr) → Code
   two : (Expr → Expr → Expr) → Code
 
+-- What each code word asks for.
 unfoldable pub codeOf : ℕ → Code
 codeOf zero = constants
 codeOf (suc zero) = variables
@@ -43,6 +45,7 @@ pub data Reading : Type 0 where
   malformed : Reading
   parsed : Expr → ℕ → Reading
 
+-- What comes after a reading, unless that is malformed.
 unfoldable pub andRead : Reading → (Expr → ℕ → Reading) → Reading
 andRead malformed k = malformed
 andRead (parsed e n) k = k e n
@@ -68,6 +71,7 @@ readWith (suc d) (x ∷ ws) = readAs (codeOf x) ws (λ n. readWith d (drop n ws)
 unfoldable pub readAt : List ℕ → ℕ → Reading
 readAt code start = readWith 64 (take 64 (drop start code))
 
+-- Whether an expression was read.
 unfoldable pub isParsed : Reading → Bool
 isParsed malformed = false
 isParsed (parsed e n) = true

@@ -19,6 +19,7 @@ constantOf w [] = some 0
 constantOf w (t ∷ []) = cond (isNone (t .symbols)) (some (wrap w (t .coefficient))) none
 constantOf w (t ∷ u ∷ s) = none
 
+-- Whether two kinds are the same.
 unfoldable pub sameKind : Kind → Kind → Bool
 sameKind k l = eqb (kindNumber k) (kindNumber l)
 
@@ -29,9 +30,11 @@ settledBy w k none c alike = cond alike (some (sameKind k equal)) none
 settledBy w k (some a) none alike = cond alike (some (sameKind k equal)) none
 settledBy w k (some a) (some b) alike = some (holds w k a b)
 
+-- What a condition comes to whatever the words are.
 unfoldable pub settled : ℕ → Condition → Option Bool
 settled w c = settledBy w (c .kind) (constantOf w (c .left)) (constantOf w (c .right)) (sameSum (c .left) (c .right))
 
+-- Whether that is the given side.
 unfoldable pub settledAs : Bool → Option Bool → Bool
 settledAs b none = false
 settledAs b (some a) = Bool·beq a b
@@ -40,6 +43,7 @@ settledAs b (some a) = Bool·beq a b
 unfoldable pub isTrue : ℕ → Condition → Bool
 isTrue w c = settledAs (c .taken) (settled w c)
 
+-- A constant condition is a false one if the other side is taken.
 unfoldable pub isFalse : ℕ → Condition → Bool
 isFalse w c = settledAs (not (c .taken)) (settled w c)
 
@@ -51,13 +55,16 @@ sameTest c d = sameKind (c .kind) (d .kind) && (sameSum (c .left) (d .left) && s
 unfoldable pub sameCondition : Condition → Condition → Bool
 sameCondition c d = sameTest c d && Bool·beq (c .taken) (d .taken)
 
+-- Whether two conditions are opposite.
 unfoldable pub opposite : Condition → Condition → Bool
 opposite c d = sameTest c d && Bool·beq (c .taken) (not (d .taken))
 
+-- Whether some member passes a test.
 unfoldable pub any : {A : Type 0} → (A → Bool) → List A → Bool
 any f [] = false
 any f (a ∷ l) = f a || any f l
 
+-- Whether every member passes a test.
 unfoldable pub all : {A : Type 0} → (A → Bool) → List A → Bool
 all f [] = true
 all f (a ∷ l) = f a && all f l
@@ -74,6 +81,7 @@ assured w cs ds = all (λ d. isTrue w d || any (sameCondition d) cs) ds
 unfoldable pub sameReads : Side → Side → Bool
 sameReads a b = eachPort (λ p. eqb (reads p (a .events)) (reads p (b .events)))
 
+-- Rule 18: the same sums written, in order, on each port.
 unfoldable pub sameWrites : Side → Side → Bool
 sameWrites a b = eachPort (λ p. same sameSum (writes p (a .events)) (writes p (b .events)))
 
@@ -90,12 +98,15 @@ partner (l ∷ ls) v =
     let later = partner ls v in
     cond (eqb (l .second) v) (l .first) later
 
+-- A side at the start of a path, its variables as the given symbols.
 unfoldable pub startSide : ℕ → List ℕ → Side
 startSide s symbols = side s (map symbolSum symbols) [] []
 
+-- The first side at the start of a pair's paths.
 unfoldable pub firstSide : Pair → Side
 firstSide pair = startSide (pair .first) (upTo 0 16)
 
+-- The second side at the start of a pair's paths.
 unfoldable pub secondSide : Pair → Side
 secondSide pair = startSide (pair .second) (map (partner (pair .links)) (upTo 0 16))
 
@@ -125,6 +136,7 @@ leadsTo t u pair path target =
     eqb (endState t (pair .first) (path .first)) (target .first)
     && (walkable u (pair .second) (path .second) && eqb (endState u (pair .second) (path .second)) (target .second))
 
+-- A mark 0 path: rules 12, 13, 14 and 16 to 19.
 unfoldable pub judgePossible : ℕ → Table → Table → Pair → Path → Pair → Fault
 judgePossible w t u pair path target =
     let second = follow w u (path .second) (secondSide pair) in
@@ -132,6 +144,7 @@ judgePossible w t u pair path target =
     let sides = whenFits (path .index) (follow w t (path .first) (firstSide pair)) judge in
     check doesNotFollow (path .index) (so (leadsTo t u pair path target) ∷ []) then sides
 
+-- A path, by its mark.
 unfoldable pub judgePath : ℕ → Table → Table → (ℕ → Pair) → Pair → Path → Fault
 judgePath w t u pairOf pair path =
     let marked = whenFits (path .index) (follow w t (path .first) (firstSide pair)) (judgeImpossible w (path .index)) in
@@ -145,6 +158,7 @@ judgePair w t u pairOf i =
     then check notCovered i (so (rule11 t 32 (pairOf i .first) (map (λ p. p .first) (pairOf i .paths))) ∷ [])
     then firstOf (judgePath w t u pairOf (pairOf i)) (pairOf i .paths)
 
+-- All pairs in order.
 unfoldable pub judgement : ℕ → List ℕ → List ℕ → List ℕ → Fault
 judgement w first second list =
     firstOf (judgePair w (tableOf first) (tableOf second) (pairAt list)) (upTo 0 (pairs list))

@@ -24,6 +24,7 @@ allows stop b = false
 allows (step e) b = not b
 allows (test k l r e f) b = true
 
+-- Whether choices can be walked from a state.
 unfoldable pub walkable : Table → ℕ → List Bool → Bool
 walkable t s [] = true
 walkable t s (b ∷ bs) = allows (t s) b && walkable t (edgeOn (t s) b .target) bs
@@ -39,6 +40,7 @@ walksOf stop on = [] ∷ []
 walksOf (step e) on = map (λ walk. false ∷ walk) (on (e .target))
 walksOf (test k l r e f) on = map (λ walk. true ∷ walk) (on (e .target)) ++ map (λ walk. false ∷ walk) (on (f .target))
 
+-- All walks from state s of n edges, or shorter into a stop.
 unfoldable pub walks : Table → ℕ → ℕ → List (List Bool)
 walks t zero s = [] ∷ []
 walks t (suc n) s = walksOf (t s) (walks t n)
@@ -82,6 +84,7 @@ Rule11 t n s paths = ((isStop (t s) ≡ true) × (paths ≡ [])) ⊎ ((isStop (t
 -- The quicker test of rule 11: down the tree of choices, the paths in their order are shared out between the true and the
 -- false side, until exactly one path is left and ends there.
 
+-- Whether a list is empty.
 unfoldable pub isNone : {A : Type 0} → List A → Bool
 isNone [] = true
 isNone (a ∷ l) = false
@@ -107,12 +110,14 @@ allFalse ([] ∷ ps) = false
 allFalse ((true ∷ p) ∷ ps) = false
 allFalse ((false ∷ p) ∷ ps) = allFalse ps
 
+-- The test below a state, by what its edges lead to.
 unfoldable pub coversOf : State → (ℕ → List (List Bool) → Bool) → List (List Bool) → Bool
 coversOf stop on ps = false
 coversOf (step e) on ps = allFalse ps && on (e .target) (map tail ps)
 coversOf (test k l r e f) on ps =
     on (e .target) (trueSide ps) && (allFalse (behind ps) && on (f .target) (map tail (behind ps)))
 
+-- The test at state s with n edges left.
 unfoldable pub covers : Table → ℕ → ℕ → List (List Bool) → Bool
 covers t zero s [] = false
 covers t zero s ([] ∷ ps) = isNone ps
@@ -121,6 +126,7 @@ covers t (suc n) s [] = false
 covers t (suc n) s ([] ∷ ps) = isNone ps
 covers t (suc n) s ((b ∷ p) ∷ ps) = coversOf (t s) (covers t n) ((b ∷ p) ∷ ps)
 
+-- Rule 11 as the verdict computes it.
 unfoldable pub rule11 : Table → ℕ → ℕ → List (List Bool) → Bool
 rule11 t n s paths = cond (isStop (t s)) (isNone paths) (covers t n s paths)
 
@@ -139,6 +145,7 @@ pub record Side : Type 0 where
   pub conditions : List Condition
   pub events : List (Event Sum)
 
+-- A side from its parts.
 unfoldable pub side : ℕ → List Sum → List Condition → List (Event Sum) → Side
 side s env cs events = record { state = s; environment = env; conditions = cs; events = events }
 
@@ -164,10 +171,12 @@ followAction w before (write p e) d =
     (sumOf w before e)
     (λ s. cond room (fits (side (d .state) (d .environment) (d .conditions) (d .events ++ (gave p s ∷ [])))) tooLarge)
 
+-- Actions with symbols, in listed order.
 unfoldable pub followActions : ℕ → List Sum → List Action → Side → Outcome Side
 followActions w before [] d = fits d
 followActions w before (a ∷ rest) d = andThen (followAction w before a d) (followActions w before rest)
 
+-- An edge with symbols: its actions, then its target.
 unfoldable pub followEdge : ℕ → Edge → Side → Outcome Side
 followEdge w e d =
     andThen

@@ -23,6 +23,7 @@ runs w input t n = after w input t n (start zeros)
 unfoldable pub written : ℕ → Input → Table → ℕ → ℕ → List ℕ
 written w input t n p = writes p (runs w input t n .log)
 
+-- How many words were read on port p after n edges.
 unfoldable pub readSoFar : ℕ → Input → Table → ℕ → ℕ → ℕ
 readSoFar w input t n p = reads p (runs w input t n .log)
 
@@ -30,6 +31,7 @@ readSoFar w input t n p = reads p (runs w input t n .log)
 unfoldable pub Stopped : ℕ → Input → Table → ℕ → Type 0
 Stopped w input t n = isStop (t (runs w input t n .state)) ≡ true
 
+-- The run stops.
 unfoldable pub Stops : ℕ → Input → Table → Type 0
 Stops w input t = (n : ℕ) × Stopped w input t n
 

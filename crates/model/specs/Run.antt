@@ -16,10 +16,12 @@ pub data Event (A : Type 0) : Type 0 where
   took : ℕ → Event A
   gave : ℕ → A → Event A
 
+-- One more, where a test is passed.
 unfoldable pub tick : Bool → ℕ → ℕ
 tick true n = suc n
 tick false n = n
 
+-- A member in front of a list, where a test is passed.
 unfoldable pub keepIf : {A : Type 0} → Bool → A → List A → List A
 keepIf true x l = x ∷ l
 keepIf false x l = l
@@ -46,6 +48,7 @@ pub record Config : Type 0 where
   pub variables : List ℕ
   pub log : List (Event ℕ)
 
+-- A configuration from its parts.
 unfoldable pub at : ℕ → List ℕ → List (Event ℕ) → Config
 at s vs log = record { state = s; variables = vs; log = log }
 
@@ -55,6 +58,7 @@ act w input before (assign v e) c = at (c .state) (set (c .variables) v (value w
 act w input before (read p v) c = at (c .state) (set (c .variables) v (input p (reads p (c .log)))) (c .log ++ (took p ∷ []))
 act w input before (write p e) c = at (c .state) (c .variables) (c .log ++ (gave p (value w before e) ∷ []))
 
+-- Actions in listed order.
 unfoldable pub actAll : ℕ → Input → List ℕ → List Action → Config → Config
 actAll w input before [] c = c
 actAll w input before (a ∷ rest) c = actAll w input before rest (act w input before a c)
@@ -65,6 +69,7 @@ fire w input e c =
     let d = actAll w input (c .variables) (e .actions) c in
     at (e .target) (d .variables) (d .log)
 
+-- Whether a state is a stop.
 unfoldable pub isStop : State → Bool
 isStop stop = true
 isStop (step e) = false
@@ -92,10 +97,11 @@ unfoldable pub after : ℕ → Input → Table → ℕ → Config → Config
 after w input t zero c = c
 after w input t (suc n) c = after w input t n (next w input t c)
 
--- Reset, with the registers that a run starts from; "variables are all 0 at reset".
+-- Reset, with the registers that a run starts from.
 unfoldable pub start : List ℕ → Config
 start registers = at 0 registers []
 
+-- "Variables are all 0 at reset."
 unfoldable pub zeros : List ℕ
 zeros = replicate 16 0
 
@@ -115,6 +121,7 @@ coupleWords [] = []
 coupleWords (took p ∷ log) = coupleWords log
 coupleWords (gave p x ∷ log) = p ∷ x ∷ coupleWords log
 
+-- Whether every couple has a port of at most 3.
 unfoldable pub portsRight : List (Event ℕ) → Bool
 portsRight [] = true
 portsRight (took p ∷ log) = portsRight log
@@ -124,11 +131,12 @@ portsRight (gave p x ∷ log) = leb p 3 && portsRight log
 unfoldable pub given : List ℕ → Input
 given words p k = getD (writes p (couples words)) k 0
 
--- Whether the words suffice for all reads of a log, and the buffer for all its couples. Asked of the log as it would stand behind
--- the chosen edge, it says whether that edge can be done whole.
+-- Whether the words suffice for all reads of a log. Asked of the log as it would stand behind the chosen edge, this and the next test
+-- say whether that edge can be done whole.
 unfoldable pub enoughInput : List ℕ → List (Event ℕ) → Bool
 enoughInput words log = eachPort (λ p. leb (reads p log) (length (writes p (couples words))))
 
+-- Whether the buffer has room for all couples of a log.
 unfoldable pub enoughRoom : List ℕ → List (Event ℕ) → Bool
 enoughRoom buffer log = leb (length (coupleWords log)) (length buffer)
 
@@ -138,6 +146,7 @@ pub record End : Type 0 where
   pub config : Config
   pub edges : ℕ
 
+-- An end from its parts.
 unfoldable pub ended : Reason → Config → ℕ → End
 ended reason c done = record { reason = reason; config = c; edges = done }
 
@@ -194,8 +203,10 @@ bufferOf (broken n r) e buffer = buffer
 unfoldable pub endOf : ℕ → List ℕ → List ℕ → List ℕ → ℕ → List ℕ → End
 endOf w registers image words limit buffer = runOn w (tableOf image) words buffer limit (start registers) 0
 
+-- The answer of the trial run.
 unfoldable pub trial : ℕ → List ℕ → List ℕ → List ℕ → ℕ → List ℕ → Trial
 trial w registers image words limit buffer = trialOf (runFault image words) (endOf w registers image words limit buffer)
 
+-- The whole final buffer of the trial run.
 unfoldable pub trialBuffer : ℕ → List ℕ → List ℕ → List ℕ → ℕ → List ℕ → List ℕ
 trialBuffer w registers image words limit buffer = bufferOf (runFault image words) (endOf w registers image words limit buffer) buffer

@@ -14,6 +14,7 @@ pub record Term : Type 0 where
   pub coefficient : ℕ
   pub symbols : List ℕ
 
+-- A sum is a list of terms.
 abbrev pub Sum : Type 0
 Sum = List Term
 
@@ -22,6 +23,7 @@ pub data Outcome (A : Type 0) : Type 0 where
   tooLarge : Outcome A
   fits : A → Outcome A
 
+-- What comes after an outcome, unless that is too large.
 unfoldable pub andThen : {A B : Type 0} → Outcome A → (A → Outcome B) → Outcome B
 andThen tooLarge k = tooLarge
 andThen (fits a) k = k a
@@ -33,9 +35,11 @@ same eq [] (b ∷ m) = false
 same eq (a ∷ l) [] = false
 same eq (a ∷ l) (b ∷ m) = eq a b && same eq l m
 
+-- Whether two terms are the same.
 unfoldable pub sameTerm : Term → Term → Bool
 sameTerm t u = eqb (t .coefficient) (u .coefficient) && same eqb (t .symbols) (u .symbols)
 
+-- Whether two sums are the same.
 unfoldable pub sameSum : Sum → Sum → Bool
 sameSum s t = same sameTerm s t
 
@@ -76,15 +80,19 @@ fit s = cond (leb (length s) 16) (fits s) tooLarge
 unfoldable pub empty : Sum
 empty = []
 
+-- The sum of a constant.
 unfoldable pub constantSum : ℕ → ℕ → Sum
 constantSum w c = keep (record { coefficient = wrap w c; symbols = [] }) []
 
+-- The sum of a symbol.
 unfoldable pub symbolSum : ℕ → Sum
 symbolSum x = record { coefficient = 1; symbols = x ∷ [] } ∷ []
 
+-- The sum of two sums.
 unfoldable pub add : ℕ → Sum → Sum → Outcome Sum
 add w s t = fit (collect w t s)
 
+-- A term with its coefficient negated.
 unfoldable pub negateTerm : ℕ → Term → Term
 negateTerm w t = record { coefficient = negated w (t .coefficient); symbols = t .symbols }
 
@@ -92,6 +100,7 @@ negateTerm w t = record { coefficient = negated w (t .coefficient); symbols = t 
 unfoldable pub negate : ℕ → Sum → Sum
 negate w s = map (negateTerm w) s
 
+-- The difference of two sums.
 unfoldable pub subtract : ℕ → Sum → Sum → Outcome Sum
 subtract w s t = fit (collect w (negate w t) s)
 
@@ -102,6 +111,7 @@ place x (y ∷ l) =
     let later = place x l in
     cond (leb x y) (x ∷ y ∷ l) (y ∷ later)
 
+-- Two rising lists as one.
 unfoldable pub merge : List ℕ → List ℕ → List ℕ
 merge [] m = m
 merge (x ∷ l) m = place x (merge l m)
@@ -144,20 +154,24 @@ unfoldable pub powers : (ℕ → ℕ) → List ℕ → ℕ
 powers ρ [] = 1
 powers ρ (x ∷ l) = ρ x * powers ρ l
 
+-- The terms of a sum, coefficient times symbols, added up.
 unfoldable pub total : (ℕ → ℕ) → Sum → ℕ
 total ρ [] = 0
 total ρ (t ∷ s) = t .coefficient * powers ρ (t .symbols) + total ρ s
 
+-- What a sum is worth.
 unfoldable pub worth : ℕ → (ℕ → ℕ) → Sum → ℕ
 worth w ρ s = wrap w (total ρ s)
 
 -- What makes a sum normal.
 
+-- Each symbol is at most the next.
 unfoldable pub Rising : List ℕ → Type 0
 Rising [] = Unit {0}
 Rising (x ∷ []) = Unit {0}
 Rising (x ∷ y ∷ l) = (x ≤ y) × Rising (y ∷ l)
 
+-- A term as a normal sum has it.
 pub record NormalTerm (w : ℕ) (t : Term) : Type 0 where
   pub nonzero : 0 < t .coefficient
   pub reduced : t .coefficient < 2 ^ w
@@ -174,6 +188,7 @@ unfoldable pub Terms : ℕ → Sum → Type 0
 Terms w [] = Unit {0}
 Terms w (t ∷ s) = NormalTerm w t × Before t s × Terms w s
 
+-- A normal sum.
 pub record Normal (w : ℕ) (s : Sum) : Type 0 where
   pub terms : Terms w s
   pub few : length s ≤ 16

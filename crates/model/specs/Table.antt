@@ -16,6 +16,7 @@ pub data Action : Type 0 where
   read : ℕ → ℕ → Action
   write : ℕ → Expr → Action
 
+-- An edge: the state it leads to, and its actions in order.
 pub record Edge : Type 0 where
   pub target : ℕ
   pub actions : List Action
@@ -32,30 +33,39 @@ Table = ℕ → State
 
 -- The header's counts, and the offsets that they fix: "the areas follow it without gaps".
 
+-- How many states the header counts.
 unfoldable pub states : List ℕ → ℕ
 states image = word image 2
 
+-- How many edges.
 unfoldable pub edges : List ℕ → ℕ
 edges image = word image 4
 
+-- How many actions.
 unfoldable pub actions : List ℕ → ℕ
 actions image = word image 6
 
+-- How many code words.
 unfoldable pub codes : List ℕ → ℕ
 codes image = word image 8
 
+-- Where the edges begin.
 unfoldable pub edgesAt : List ℕ → ℕ
 edgesAt image = 10 + 5 * states image
 
+-- Where the actions begin.
 unfoldable pub actionsAt : List ℕ → ℕ
 actionsAt image = edgesAt image + 3 * edges image
 
+-- Where the code words begin.
 unfoldable pub codesAt : List ℕ → ℕ
 codesAt image = actionsAt image + 3 * actions image
 
+-- The code words.
 unfoldable pub codeArea : List ℕ → List ℕ
 codeArea image = take (codes image) (drop (codesAt image) image)
 
+-- The header's rules.
 unfoldable pub headerRules : List ℕ → List Rule
 headerRules image =
     is (word image 0) 1 ∷ is (word image 1) (length image)
@@ -65,7 +75,7 @@ headerRules image =
     ∷ le (codes image) 2048 ∷ is (word image 9) (codesAt image)
     ∷ is (length image) (codesAt image + codes image) ∷ []
 
--- The first of the starts whose expression is malformed; the record of a 5 is the start as it stands.
+-- What is found at an expression start; the record of a 5 is the start as it stands.
 unfoldable pub startFault : List ℕ → ℕ → Fault
 startFault code start = cond (isParsed (readAt code start)) sound (broken wrongExpression start)
 
@@ -96,19 +106,23 @@ stateFault image i =
 
 -- Actions: 0, variable, expression start; 1, port, variable; 2, port, expression start.
 
+-- Word k of action i.
 unfoldable pub actionWord : List ℕ → ℕ → ℕ → ℕ
 actionWord image i k = word image (actionsAt image + 3 * i + k)
 
+-- The rules of an action's own fields, by its kind.
 unfoldable pub actionRules : ℕ → ℕ → ℕ → List Rule
 actionRules zero a b = le a 15 ∷ []
 actionRules (suc zero) a b = le a 3 ∷ le b 15 ∷ []
 actionRules (suc (suc k)) a b = is k 0 ∷ le a 3 ∷ []
 
+-- The expression starts of an action.
 unfoldable pub actionStarts : ℕ → ℕ → List ℕ
 actionStarts zero b = b ∷ []
 actionStarts (suc zero) b = []
 actionStarts (suc (suc k)) b = b ∷ []
 
+-- An action's own fields, then its expression.
 unfoldable pub actionFault : List ℕ → ℕ → Fault
 actionFault image i =
     check wrongAction i (actionRules (actionWord image i 0) (actionWord image i 1) (actionWord image i 2))
@@ -120,11 +134,13 @@ actionOf code zero a b = assign a (treeOf (readAt code b))
 actionOf code (suc zero) a b = read a b
 actionOf code (suc (suc k)) a b = write a (treeOf (readAt code b))
 
+-- The action that a record holds, by its number.
 unfoldable pub actionAt : List ℕ → ℕ → Action
 actionAt image i = actionOf (codeArea image) (actionWord image i 0) (actionWord image i 1) (actionWord image i 2)
 
 -- Edges: target state, first action, action count.
 
+-- Word k of edge i.
 unfoldable pub edgeWord : List ℕ → ℕ → ℕ → ℕ
 edgeWord image i k = word image (edgesAt image + 3 * i + k)
 
@@ -140,14 +156,17 @@ variablesSet (assign v e ∷ rest) = v ∷ variablesSet rest
 variablesSet (read p v ∷ rest) = v ∷ variablesSet rest
 variablesSet (write p e ∷ rest) = variablesSet rest
 
+-- Whether a number stands in a list.
 unfoldable pub member : ℕ → List ℕ → Bool
 member x [] = false
 member x (y ∷ ys) = eqb x y || member x ys
 
+-- Whether no number stands twice in a list.
 unfoldable pub distinct : List ℕ → Bool
 distinct [] = true
 distinct (x ∷ xs) = not (member x xs) && distinct xs
 
+-- The rules of an edge; the variables are looked at where its range is right.
 unfoldable pub edgeFault : List ℕ → ℕ → Fault
 edgeFault image i =
     let once = check wrongEdge i (so (distinct (variablesSet (edgeAt image i .actions))) ∷ []) in

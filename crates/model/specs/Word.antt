@@ -11,18 +11,23 @@ use lib.Signed.{ltZ}
 abbrev pub base : ℕ
 base = 32
 
+-- A number modulo 2^w.
 unfoldable pub wrap : ℕ → ℕ → ℕ
 wrap w x = x % 2 ^ w
 
+-- The sum of two words.
 unfoldable pub plus : ℕ → ℕ → ℕ → ℕ
 plus w a b = wrap w (a + b)
 
+-- The negation of a word.
 unfoldable pub negated : ℕ → ℕ → ℕ
 negated w a = wrap w (2 ^ w - wrap w a)
 
+-- The difference of two words.
 unfoldable pub minus : ℕ → ℕ → ℕ → ℕ
 minus w a b = wrap w (a + (2 ^ w - wrap w b))
 
+-- The product of two words.
 unfoldable pub times : ℕ → ℕ → ℕ → ℕ
 times w a b = wrap w (a * b)
 
