@@ -158,15 +158,19 @@ fn main() {
     let args: Vec<u32> = env::args().skip(1).map(|a| a.parse().unwrap()).collect();
     let (which, rounds) = (args[0], args[1]);
     let wide = |k: u32| Sum { terms: (1..17).map(|v| Term { coef: v * k, mono: v }).collect() };
-    let monos = [0, 1, 2, 3, 129, 130, 131, 258];
-    let eight = |k: u32| Sum { terms: monos.iter().map(|m| Term { coef: m + k, mono: *m }).collect() };
+    // 1, x, y, xx, xy, yy, xxx, yyy, with coefficients such that a product of five symbols or more vanishes: 15 terms are left.
+    let monos = [0u32, 1, 2, 129, 130, 258, 16513, 33026];
+    let scales = [1u32, 1, 1, 256, 256, 256, 16777216, 16777216];
+    let term = |i: usize, k: u32| Term { coef: scales[i].wrapping_mul(monos[i] + k), mono: monos[i] };
+    let eight = |k: u32| Sum { terms: (0..8).map(|i| term(i, k)).collect() };
     let env: Vec<Sum> = (1..17).map(|v| Sum { terms: vec![Term { coef: 1, mono: v }] }).collect();
     let mut variables = [0u32; 16];
     for v in 0..16 {
         variables[v] = v as u32 + 1;
     }
     let (mut a, b) = (wide(3), wide(5));
-    let (mut c, d) = (eight(3), eight(5));
+    let (mut c, mut d) = (eight(3), eight(5));
+    d.terms[0].coef = 5;
     let mut total = 0u32;
     for i in 0..rounds {
         match which {

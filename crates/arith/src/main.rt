@@ -73,8 +73,11 @@ const EXPRESSION: [u32; 63] = [
     15,
 ];
 
-// The symbol lists of the factors of the product.
-const MONOS: [u32; 8] = [0, 1, 2, 3, 129, 130, 131, 258];
+// The symbol lists of the factors of the product, over x and y: 1, x, y, xx, xy, yy, xxx, yyy.
+const MONOS: [u32; 8] = [0, 1, 2, 129, 130, 258, 16513, 33026];
+
+// What their coefficients are multiples of: a product of five symbols or more vanishes, and 15 terms are left.
+const SCALES: [u32; 8] = [1, 1, 1, 256, 256, 256, 16777216, 16777216];
 
 // The number that decimal digits write, modulo 2^32.
 fn number(text: &[u8]) -> u32 {
@@ -133,8 +136,9 @@ fn eight(c: u32, k: u32) -> Sum {
     let mut i = 0;
     while i < 8 {
         let mono = MONOS[i];
+        let scale = SCALES[i];
         ts[i] = Term {
-            coef: word::plus(mono, k),
+            coef: word::times(scale, word::plus(mono, k)),
             mono: mono,
         };
         i += 1;

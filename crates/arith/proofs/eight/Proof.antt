@@ -21,8 +21,17 @@ mul-mono c = search needs
 array-read-mono : tie.Need-array-read-mono Inv-loop μ-loop
 array-read-mono c = search needs
 
+mul-scale : tie.Need-mul-scale Inv-loop μ-loop
+mul-scale c = search needs
+
+array-read-scale : tie.Need-array-read-scale Inv-loop μ-loop
+array-read-scale c = search needs
+
 plus-requires : tie.Need-plus-requires Inv-loop μ-loop
 plus-requires c κs = search needs
+
+times-requires : tie.Need-times-requires Inv-loop μ-loop
+times-requires c κs = search needs
 
 mul-ts : tie.Need-mul-ts Inv-loop μ-loop
 mul-ts c = search needs
@@ -54,7 +63,10 @@ eight-spec =
     loop-holds
     mul-mono
     array-read-mono
+    mul-scale
+    array-read-scale
     plus-requires
+    times-requires
     mul-ts
     array-set-from-ts
     add-i
