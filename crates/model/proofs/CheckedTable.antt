@@ -40,15 +40,15 @@ state-edge image n (suc (suc k)) l r t f h each facts false = each f (facts .1 .
 module _ (image : List ℕ) (passed : tableFault image ≡ sound) where
   -- Nothing is found in a state, an action or an edge of a checked table.
 
-  state-sound : (i : ℕ) → i < states image → stateFault image i ≡ sound
+  pub state-sound : (i : ℕ) → i < states image → stateFault image i ≡ sound
   unfolding tableFault
   state-sound = record-sound (stateFault image) (states image) (then-first _ _ (then-second _ _ passed))
 
-  action-sound : (i : ℕ) → i < actions image → actionFault image i ≡ sound
+  pub action-sound : (i : ℕ) → i < actions image → actionFault image i ≡ sound
   unfolding tableFault
   action-sound = record-sound (actionFault image) (actions image) (then-first _ _ (then-second _ _ (then-second _ _ passed)))
 
-  edge-sound : (i : ℕ) → i < edges image → edgeFault image i ≡ sound
+  pub edge-sound : (i : ℕ) → i < edges image → edgeFault image i ≡ sound
   unfolding tableFault
   edge-sound = record-sound (edgeFault image) (edges image) (then-second _ _ (then-second _ _ (then-second _ _ passed)))
 

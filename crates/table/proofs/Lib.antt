@@ -1,4 +1,4 @@
-pub mod Rules
+pub mod Decoding
 pub mod Areas
 pub mod Records
 pub mod Unique

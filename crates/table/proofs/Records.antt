@@ -9,36 +9,24 @@ use lib.Dec.{leb, ltb, eqb}
 use lib.ListN.{length, take, drop, drop-of-length-le, length-drop}
 use lib.Seq.{take-all, take-nil}
 use borrow.Author.Tests.{leb-true, leb-false, ltb-true, ltb-false, eqb-true, eqb-false}
-use Rattle.model.specs.Answer.{Fault, sound, broken, numberOf, _then_, firstOf, upTo, Rule, le, lt, is, so, kept, allKept, check, word, wrongState, wrongAction, wrongEdge, wrongTable}
+use Rattle.model.specs.Answer.{Fault, sound, numberOf, _then_, firstOf, upTo, le, lt, is, so, allKept, check, word, wrongState, wrongAction, wrongEdge, wrongTable}
 use Rattle.model.specs.Expr.{isParsed, readAt}
-use Rattle.model.specs.Table.{read, states, edges, actions, codeArea, startFault, stateRules, stateStarts, stateWord, stateFault, actionRules, actionStarts, actionWord, actionFault, actionOf, actionAt, edgeWord, edgeAt, edgeFault, variablesSet, distinct, headerRules, tableFault}
+use Rattle.model.specs.Table.{Action, states, edges, actions, edgesAt, actionsAt, codeArea, startFault, stateRules, stateStarts, stateFault, actionRules, actionStarts, actionFault, actionOf, actionAt, edgeAt, edgeFault, variablesSet, distinct, headerRules, tableFault}
 use Rattle.expr.proofs.Reading.{from, from-drop, length-from}
-use Rattle.table.specs.Checks.{checkedOf, edgeRules, setOf, faultIn}
-use Rattle.table.specs.declared.Checked.{Checked}
-use Rattle.table.specs.declared.Checked.the-variants.{Sound, Broken}
+use Rattle.fault.specs.Fault.{checkedOf}
+use Rattle.fault.specs.declared.Checked.{Checked}
+use Rattle.fault.specs.declared.Checked.the-variants.{Sound, Broken}
+use Rattle.fault.proofs.Rules.{all-kept, not-kept, decided, refused, passed, first-broken, first-sound, facts-kept, then-sound, so-kept}
+use Rattle.table.specs.Checks.{Cut, edgeRules, setOf, faultIn, stateRecord, edgeRecord, actionRecord}
+use Rattle.table.specs.declared.StateRecord.{StateRecord}
+use Rattle.table.specs.declared.EdgeRecord.{EdgeRecord}
+use Rattle.table.specs.declared.ActionRecord.{ActionRecord}
+use Rattle.table.specs.declared.Offsets.{Offsets}
 use Rattle.table.specs.declared.Area.the-variants.{States, Actions, Edges}
 use Rattle.table.specs.declared.Set.the-variants.{Nothing, Variable}
-use Rattle.table.proofs.Rules.{all-kept, not-kept, decided, refused, passed, first-broken, first-sound, facts-kept}
+use Rattle.table.proofs.Decoding.{edge-words, action-words}
 
--- What was read stands for what is in the image.
-
-pub same-one : {a b n : ℕ} → a ≡ b → a ≡ n → b ≡ n
-same-one p q = cc
-
-pub same-both : {a b m n : ℕ} → a ≡ b → m ≡ n → a ≡ m → b ≡ n
-same-both p q r = cc
-
-pub at-most : {a b n : ℕ} → a ≡ b → a ≤ n → b ≤ n
-at-most p h = omega arith
-
-pub at-least : {a b n : ℕ} → a ≡ b → n ≤ a → n ≤ b
-at-least p h = omega arith
-
-pub over : {a b n : ℕ} → a ≡ b → n < a → b ≤ n → ⊥
-over p h k = omega arith
-
-pub under : {a b n : ℕ} → a ≡ b → a < n → n ≤ b → ⊥
-under p h k = omega arith
+-- Where an area ends, from what was read.
 
 pub sums : {a b x y : ℕ} → x ≡ a → y ≡ b → x + 3 * y ≡ a + 3 * b
 sums p q = cc
@@ -117,11 +105,6 @@ module _ (e k l r t f : ℕ) where
       (decided (ltb f e) (lt (k - 2) 3 ∷ lt t e ∷ lt f e ∷ []) (λ u. (omega arith, (p, (ltb-true f e u, tt))))
       (λ u v. omega (arith, ltb-false f e u, v .1 .1 .0)))
 
-then-sound : (f : Fault) → (f then sound) ≡ f
-unfolding _then_
-then-sound sound = refl
-then-sound (broken n r) = refl
-
 plain-starts : (f : ℕ → Fault) (k l r : ℕ) → k < 2 → firstOf f (stateStarts k l r) ≡ sound
 unfolding stateStarts firstOf
 plain-starts f zero l r h = refl
@@ -134,54 +117,42 @@ test-starts f zero l r h = absurd (omega arith)
 test-starts f (suc zero) l r h = absurd (omega arith)
 test-starts f (suc (suc k)) l r h = ap (λ g. f l then g) (then-sound (f r))
 
--- The rules of state i.
-abbrev pub ownState : List ℕ → ℕ → List Rule
-ownState image i =
-    stateRules (word image 4) (stateWord image i 0) (stateWord image i 1) (stateWord image i 2) (stateWord image i 3) (stateWord image i 4)
+-- What is found in a state, by its fields, where there are so many edges.
+abbrev pub StateFound : ℕ → List ℕ → ℕ → StateRecord → Fault
+StateFound i code e r =
+    check wrongState i (stateRules e (r .kind) (r .left) (r .right) (r .«on_true») (r .«on_false»))
+    then firstOf (startFault code) (stateStarts (r .kind) (r .left) (r .right))
 
-pub own-state : (image : List ℕ) (i : ℕ) {b : Bool} {e k l r t f : ℕ} → e ≡ word image 4 → k ≡ stateWord image i 0 → l ≡ stateWord image i 1
-    → r ≡ stateWord image i 2 → t ≡ stateWord image i 3 → f ≡ stateWord image i 4 → b ≡ allKept (stateRules e k l r t f)
-    → b ≡ allKept (ownState image i)
-own-state image i pe pk pl pr pt pf h = h ∙ (λ j. allKept (stateRules (pe j) (pk j) (pl j) (pr j) (pt j) (pf j)))
+pub state-found : (image : List ℕ) (i : ℕ) {code : List ℕ} {e : ℕ} {r : StateRecord} → code ≡ codeArea image → e ≡ word image 4
+    → r ≡ stateRecord image i → StateFound i code e r ≡ stateFault image i
+unfolding stateFault stateRecord edges
+state-found image i q p s = λ j. StateFound i (q j) (p j) (s j)
 
--- The findings of a state's expressions.
-abbrev startsOf : List ℕ → ℕ → Fault
-startsOf image i = firstOf (startFault (codeArea image)) (stateStarts (stateWord image i 0) (stateWord image i 1) (stateWord image i 2))
+module _ (i : ℕ) (code : List ℕ) (e : ℕ) (r : StateRecord) {b : Bool} {g : Fault}
+    (own : b ≡ allKept (stateRules e (r .kind) (r .left) (r .right) (r .«on_true») (r .«on_false»))) (found : StateFound i code e r ≡ g) where
+  pub state-refused : b ≡ false → Broken 2 i ≡ checkedOf g
+  unfolding numberOf
+  state-refused h = refused wrongState i _ (firstOf (startFault code) (stateStarts (r .kind) (r .left) (r .right))) own h ∙ ap checkedOf found
 
-module _ (image : List ℕ) (i : ℕ) {b : Bool} (own : b ≡ allKept (ownState image i)) where
-  pub state-refused : b ≡ false → Broken 2 i ≡ checkedOf (stateFault image i)
-  unfolding stateFault numberOf edges
-  state-refused h = refused wrongState i (ownState image i) (startsOf image i) own h
+  state-passed : b ≡ true → firstOf (startFault code) (stateStarts (r .kind) (r .left) (r .right)) ≡ g
+  state-passed h = sym (passed wrongState i _ (firstOf (startFault code) (stateStarts (r .kind) (r .left) (r .right))) own h) ∙ found
 
-  state-passed : b ≡ true → stateFault image i ≡ startsOf image i
-  unfolding stateFault edges
-  state-passed h = passed wrongState i (ownState image i) (startsOf image i) own h
-
-  pub state-plain : {k : ℕ} → b ≡ true → k ≡ stateWord image i 0 → k < 2 → Sound ≡ checkedOf (stateFault image i)
+  pub state-plain : b ≡ true → r .kind < 2 → Sound ≡ checkedOf g
   unfolding checkedOf
-  state-plain {k} h pk g =
-      let g′ : stateWord image i 0 < 2 = omega arith in
-      sym (ap checkedOf (state-passed h ∙ plain-starts (startFault (codeArea image)) (stateWord image i 0) (stateWord image i 1) (stateWord image i 2) g′))
+  state-plain h k = ap checkedOf (sym (plain-starts (startFault code) (r .kind) (r .left) (r .right) k) ∙ state-passed h)
 
   -- A test's findings.
-  state-test : {k l r : ℕ} → b ≡ true → k ≡ stateWord image i 0 → 2 ≤ k → l ≡ stateWord image i 1 → r ≡ stateWord image i 2
-      → stateFault image i ≡ (startFault (codeArea image) l then startFault (codeArea image) r)
-  state-test {k} {l} {r} h pk g pl pr =
-      let g′ : 2 ≤ stateWord image i 0 = omega arith in
-      state-passed h
-      ∙ test-starts (startFault (codeArea image)) (stateWord image i 0) (stateWord image i 1) (stateWord image i 2) g′
-      ∙ sym (λ j. startFault (codeArea image) (pl j) then startFault (codeArea image) (pr j))
+  state-test : b ≡ true → 2 ≤ r .kind → (startFault code (r .left) then startFault code (r .right)) ≡ g
+  state-test h k = sym (test-starts (startFault code) (r .kind) (r .left) (r .right) k) ∙ state-passed h
 
-  pub state-left : {k l r n j : ℕ} {c : Checked} → b ≡ true → k ≡ stateWord image i 0 → 2 ≤ k → l ≡ stateWord image i 1 → r ≡ stateWord image i 2
-      → c ≡ checkedOf (startFault (codeArea image) l) → c ≡ Broken n j → Broken n j ≡ checkedOf (stateFault image i)
-  state-left {k} {l} {r} h pk g pl pr e q =
-      first-broken (startFault (codeArea image) l) (startFault (codeArea image) r) e q ∙ sym (ap checkedOf (state-test h pk g pl pr))
+  pub state-left : {n j : ℕ} {c : Checked} → b ≡ true → 2 ≤ r .kind → c ≡ checkedOf (startFault code (r .left)) → c ≡ Broken n j
+      → Broken n j ≡ checkedOf g
+  state-left h k p q = first-broken (startFault code (r .left)) (startFault code (r .right)) p q ∙ ap checkedOf (state-test h k)
 
-  pub state-right : {k l r : ℕ} {c d : Checked} → b ≡ true → k ≡ stateWord image i 0 → 2 ≤ k → l ≡ stateWord image i 1 → r ≡ stateWord image i 2
-      → c ≡ checkedOf (startFault (codeArea image) l) → c ≡ Sound → d ≡ checkedOf (startFault (codeArea image) r)
-      → d ≡ checkedOf (stateFault image i)
-  state-right {k} {l} {r} h pk g pl pr e q d =
-      d ∙ sym (ap checkedOf (state-test h pk g pl pr ∙ first-sound (startFault (codeArea image) l) (startFault (codeArea image) r) e q))
+  pub state-right : {c d : Checked} → b ≡ true → 2 ≤ r .kind → c ≡ checkedOf (startFault code (r .left)) → c ≡ Sound
+      → d ≡ checkedOf (startFault code (r .right)) → d ≡ checkedOf g
+  state-right h k p q d =
+      d ∙ ap checkedOf (sym (first-sound (startFault code (r .left)) (startFault code (r .right)) p q) ∙ state-test h k)
 
 -- Actions.
 
@@ -230,13 +201,6 @@ module _ (k a b : ℕ) where
       rw (read-rules z)
       (decided (leb b 15) (le a 3 ∷ le b 15 ∷ []) (λ u. (h, (leb-true b 15 u, tt))) (λ u v. omega (arith, leb-false b 15 u, v .1 .0)))
 
-abbrev pub ownAction : List ℕ → ℕ → List Rule
-ownAction image i = actionRules (actionWord image i 0) (actionWord image i 1) (actionWord image i 2)
-
-pub own-action : (image : List ℕ) (i : ℕ) {c : Bool} {k a b : ℕ} → k ≡ actionWord image i 0 → a ≡ actionWord image i 1 → b ≡ actionWord image i 2
-    → c ≡ allKept (actionRules k a b) → c ≡ allKept (ownAction image i)
-own-action image i pk pa pb h = h ∙ (λ j. allKept (actionRules (pk j) (pa j) (pb j)))
-
 read-starts : (f : ℕ → Fault) (k b : ℕ) → k ≡ 1 → firstOf f (actionStarts k b) ≡ sound
 unfolding actionStarts firstOf
 read-starts f k b z = rw z
@@ -247,43 +211,48 @@ value-starts f zero b h = then-sound (f b)
 value-starts f (suc zero) b h = absurd (h refl)
 value-starts f (suc (suc k)) b h = then-sound (f b)
 
-module _ (image : List ℕ) (i : ℕ) {c : Bool} (own : c ≡ allKept (ownAction image i)) where
-  pub action-refused : c ≡ false → Broken 3 i ≡ checkedOf (actionFault image i)
-  unfolding actionFault numberOf
-  action-refused h = refused wrongAction i (ownAction image i) (firstOf (startFault (codeArea image)) (actionStarts (actionWord image i 0) (actionWord image i 2))) own h
+-- What is found in an action, by its fields.
+abbrev pub ActionFound : ℕ → List ℕ → ActionRecord → Fault
+ActionFound i code r =
+    check wrongAction i (actionRules (r .kind) (r .a) (r .b)) then firstOf (startFault code) (actionStarts (r .kind) (r .b))
 
-  action-passed : c ≡ true → actionFault image i ≡ firstOf (startFault (codeArea image)) (actionStarts (actionWord image i 0) (actionWord image i 2))
-  unfolding actionFault
-  action-passed h = passed wrongAction i (ownAction image i) (firstOf (startFault (codeArea image)) (actionStarts (actionWord image i 0) (actionWord image i 2))) own h
+pub action-found : (image : List ℕ) (i : ℕ) {code : List ℕ} {at : ℕ} {r : ActionRecord} → code ≡ codeArea image → at ≡ actionsAt image
+    → r ≡ actionRecord image at i → ActionFound i code r ≡ actionFault image i
+unfolding actionFault
+action-found image i q p s = λ j. ActionFound i (q j) (action-words image i p s j)
 
-  pub action-read : {k : ℕ} → c ≡ true → k ≡ actionWord image i 0 → k ≡ 1 → Sound ≡ checkedOf (actionFault image i)
+module _ (i : ℕ) (code : List ℕ) (r : ActionRecord) {b : Bool} {g : Fault} (own : b ≡ allKept (actionRules (r .kind) (r .a) (r .b)))
+    (found : ActionFound i code r ≡ g) where
+  pub action-refused : b ≡ false → Broken 3 i ≡ checkedOf g
+  unfolding numberOf
+  action-refused h = refused wrongAction i _ (firstOf (startFault code) (actionStarts (r .kind) (r .b))) own h ∙ ap checkedOf found
+
+  action-passed : b ≡ true → firstOf (startFault code) (actionStarts (r .kind) (r .b)) ≡ g
+  action-passed h = sym (passed wrongAction i _ (firstOf (startFault code) (actionStarts (r .kind) (r .b))) own h) ∙ found
+
+  pub action-read : b ≡ true → r .kind ≡ 1 → Sound ≡ checkedOf g
   unfolding checkedOf
-  action-read h p z =
-      sym (ap checkedOf (action-passed h ∙ read-starts (startFault (codeArea image)) (actionWord image i 0) (actionWord image i 2) (sym p ∙ z)))
+  action-read h k = ap checkedOf (sym (read-starts (startFault code) (r .kind) (r .b) k) ∙ action-passed h)
 
-  pub action-value : {k b : ℕ} {r : Checked} → c ≡ true → k ≡ actionWord image i 0 → (k ≡ 1 → ⊥) → b ≡ actionWord image i 2
-      → r ≡ checkedOf (startFault (codeArea image) b) → r ≡ checkedOf (actionFault image i)
-  action-value {k} {b} h p z q e =
-      e
-      ∙ ap (λ x. checkedOf (startFault (codeArea image) x)) q
-      ∙ sym (ap checkedOf (action-passed h ∙ value-starts (startFault (codeArea image)) (actionWord image i 0) (actionWord image i 2) (λ u. z (p ∙ u))))
+  pub action-value : {c : Checked} → b ≡ true → (r .kind ≡ 1 → ⊥) → c ≡ checkedOf (startFault code (r .b)) → c ≡ checkedOf g
+  action-value h k e = e ∙ ap checkedOf (sym (value-starts (startFault code) (r .kind) (r .b) k) ∙ action-passed h)
 
 -- The variable that an action sets.
 
-module _ (image : List ℕ) (i : ℕ) {k : ℕ} (p : k ≡ actionWord image i 0) where
-  pub set-assign : {a : ℕ} → k ≡ 0 → a ≡ actionWord image i 1 → Variable a ≡ setOf (actionAt image i)
-  unfolding actionAt actionOf setOf
-  set-assign z q = let o : actionWord image i 0 ≡ 0 = cc in rw (o, q)
+module _ (code : List ℕ) (k a b : ℕ) {x : Action} (is-action : x ≡ actionOf code k a b) where
+  pub set-assign : k ≡ 0 → Variable a ≡ setOf x
+  unfolding actionOf setOf
+  set-assign z = rw (is-action, z)
 
-  pub set-read : {b : ℕ} → k ≡ 1 → b ≡ actionWord image i 2 → Variable b ≡ setOf (actionAt image i)
-  unfolding actionAt actionOf setOf
-  set-read z q = let o : actionWord image i 0 ≡ 1 = cc in rw (o, q)
+  pub set-read : k ≡ 1 → Variable b ≡ setOf x
+  unfolding actionOf setOf
+  set-read z = rw (is-action, z)
 
-  pub set-nothing : (k ≡ 0 → ⊥) → (k ≡ 1 → ⊥) → Nothing ≡ setOf (actionAt image i)
-  unfolding actionAt actionOf setOf
-  set-nothing y z = nothing (actionWord image i 0) (λ u. y (p ∙ u)) (λ u. z (p ∙ u))
+  pub set-nothing : (k ≡ 0 → ⊥) → (k ≡ 1 → ⊥) → Nothing ≡ setOf x
+  unfolding actionOf setOf
+  set-nothing y z = rw is-action (nothing k y z)
     where
-      nothing : (k : ℕ) → (k ≡ 0 → ⊥) → (k ≡ 1 → ⊥) → Nothing ≡ setOf (actionOf (codeArea image) k (actionWord image i 1) (actionWord image i 2))
+      nothing : (k : ℕ) → (k ≡ 0 → ⊥) → (k ≡ 1 → ⊥) → Nothing ≡ setOf (actionOf code k a b)
       nothing zero y z = absurd (y refl)
       nothing (suc zero) y z = absurd (z refl)
       nothing (suc (suc k)) y z = refl
@@ -305,49 +274,41 @@ module _ (s a t f n : ℕ) where
   unfolding edgeRules
   edge-range e h = facts-kept (lt t s ∷ le n 16 ∷ le (f + n) a ∷ []) e h .1 .1 .0
 
-abbrev pub ownEdge : List ℕ → ℕ → List Rule
-ownEdge image i = edgeRules (word image 2) (word image 6) (edgeWord image i 0) (edgeWord image i 1) (edgeWord image i 2)
-
-pub own-edge : (image : List ℕ) (i : ℕ) {b : Bool} {s a t f n : ℕ} → s ≡ word image 2 → a ≡ word image 6 → t ≡ edgeWord image i 0
-    → f ≡ edgeWord image i 1 → n ≡ edgeWord image i 2 → b ≡ allKept (edgeRules s a t f n) → b ≡ allKept (ownEdge image i)
-own-edge image i ps pa pt pf pn h = h ∙ (λ j. allKept (edgeRules (ps j) (pa j) (pt j) (pf j) (pn j)))
-
+-- Whether n actions from action f on set no variable twice.
 abbrev pub onceIn : List ℕ → ℕ → ℕ → Bool
 onceIn image f n = distinct (variablesSet (map (actionAt image) (upTo f n)))
 
-pub once-in : (image : List ℕ) (i : ℕ) {b : Bool} {f n : ℕ} → f ≡ edgeWord image i 1 → n ≡ edgeWord image i 2 → b ≡ onceIn image f n
-    → b ≡ onceIn image (edgeWord image i 1) (edgeWord image i 2)
-once-in image i pf pn h = h ∙ (λ j. onceIn image (pf j) (pn j))
+-- What is found in an edge, by its fields, where there are so many states and actions.
+abbrev pub EdgeFound : List ℕ → ℕ → ℕ → ℕ → EdgeRecord → Fault
+EdgeFound image i s a r =
+    check wrongEdge i (edgeRules s a (r .target) (r .first) (r .count))
+    then check wrongEdge i (so (onceIn image (r .first) (r .count)) ∷ [])
 
-so-kept : (b : Bool) → b ≡ allKept (so b ∷ [])
-unfolding allKept kept
-so-kept true = refl
-so-kept false = refl
+pub edge-found : (image : List ℕ) (i : ℕ) {s a at : ℕ} {r : EdgeRecord} → s ≡ word image 2 → a ≡ word image 6 → at ≡ edgesAt image
+    → r ≡ edgeRecord image at i → EdgeFound image i s a r ≡ edgeFault image i
+unfolding edgeFault edgeRules edgeAt states actions
+edge-found image i ps pa p e = λ j. EdgeFound image i (ps j) (pa j) (edge-words image i p e j)
 
-module _ (image : List ℕ) (i : ℕ) {b : Bool} (own : b ≡ allKept (ownEdge image i)) where
-  pub edge-refused : b ≡ false → Broken 4 i ≡ checkedOf (edgeFault image i)
-  unfolding edgeFault edgeRules numberOf states actions
-  edge-refused h = refused wrongEdge i (ownEdge image i) (check wrongEdge i (so (distinct (variablesSet (edgeAt image i .actions))) ∷ [])) own h
-
-  edge-passed : b ≡ true → edgeFault image i ≡ (check wrongEdge i (so (onceIn image (edgeWord image i 1) (edgeWord image i 2)) ∷ []) then sound)
-  unfolding edgeFault edgeRules edgeAt states actions
-  edge-passed h =
-      passed wrongEdge i (ownEdge image i) (check wrongEdge i (so (onceIn image (edgeWord image i 1) (edgeWord image i 2)) ∷ [])) own h
-      ∙ sym (then-sound (check wrongEdge i (so (onceIn image (edgeWord image i 1) (edgeWord image i 2)) ∷ [])))
-
-  pub edge-twice : {c : Bool} → b ≡ true → c ≡ onceIn image (edgeWord image i 1) (edgeWord image i 2) → c ≡ false
-      → Broken 4 i ≡ checkedOf (edgeFault image i)
+module _ (image : List ℕ) (i s a : ℕ) (r : EdgeRecord) {b : Bool} {g : Fault} (own : b ≡ allKept (edgeRules s a (r .target) (r .first) (r .count)))
+    (found : EdgeFound image i s a r ≡ g) where
+  pub edge-refused : b ≡ false → Broken 4 i ≡ checkedOf g
   unfolding numberOf
-  edge-twice h e g =
-      refused wrongEdge i (so (onceIn image (edgeWord image i 1) (edgeWord image i 2)) ∷ []) sound (e ∙ so-kept (onceIn image (edgeWord image i 1) (edgeWord image i 2))) g
-      ∙ sym (ap checkedOf (edge-passed h))
+  edge-refused h = refused wrongEdge i _ (check wrongEdge i (so (onceIn image (r .first) (r .count)) ∷ [])) own h ∙ ap checkedOf found
 
-  pub edge-once : {c : Bool} → b ≡ true → c ≡ onceIn image (edgeWord image i 1) (edgeWord image i 2) → c ≡ true
-      → Sound ≡ checkedOf (edgeFault image i)
+  edge-passed : b ≡ true → (check wrongEdge i (so (onceIn image (r .first) (r .count)) ∷ []) then sound) ≡ g
+  edge-passed h =
+      then-sound (check wrongEdge i (so (onceIn image (r .first) (r .count)) ∷ []))
+      ∙ sym (passed wrongEdge i _ (check wrongEdge i (so (onceIn image (r .first) (r .count)) ∷ [])) own h)
+      ∙ found
+
+  pub edge-twice : {c : Bool} → b ≡ true → c ≡ onceIn image (r .first) (r .count) → c ≡ false → Broken 4 i ≡ checkedOf g
+  unfolding numberOf
+  edge-twice h e k = refused wrongEdge i _ sound (e ∙ so-kept (onceIn image (r .first) (r .count))) k ∙ ap checkedOf (edge-passed h)
+
+  pub edge-once : {c : Bool} → b ≡ true → c ≡ onceIn image (r .first) (r .count) → c ≡ true → Sound ≡ checkedOf g
   unfolding checkedOf
-  edge-once h e g =
-      sym (ap checkedOf (edge-passed h
-      ∙ passed wrongEdge i (so (onceIn image (edgeWord image i 1) (edgeWord image i 2)) ∷ []) sound (e ∙ so-kept (onceIn image (edgeWord image i 1) (edgeWord image i 2))) g))
+  edge-once h e k =
+      ap checkedOf (sym (passed wrongEdge i _ sound (e ∙ so-kept (onceIn image (r .first) (r .count))) k) ∙ edge-passed h)
 
 -- The image.
 
@@ -360,6 +321,13 @@ module _ (image : List ℕ) {b : Bool} (header : b ≡ allKept (headerRules imag
       then firstOf (actionFault image) (upTo 0 (actions image))
       then firstOf (edgeFault image) (upTo 0 (edges image)))
       header h
+
+  -- The areas are where the header says.
+  pub cut-out : {code : List ℕ} {o : Offsets} → b ≡ true → code ≡ codeArea image → o .edges ≡ word image 5 → o .actions ≡ word image 7 → Cut image code o
+  unfolding headerRules
+  cut-out h q pe pa =
+      let facts = facts-kept (headerRules image) header h in
+      record { codes = q; edges = pe ∙ facts .1 .1 .1 .1 .1 .1 .0; actions = pa ∙ facts .1 .1 .1 .1 .1 .1 .1 .1 .0 }
 
   -- What is found along each area, with the count as it was read.
   areas : {s a e : ℕ} → b ≡ true → s ≡ word image 2 → a ≡ word image 6 → e ≡ word image 4

@@ -1,23 +1,24 @@
--- What the answers of this crate stand for: the findings of the model's table check, as the code hands them over. Assumes nothing.
-use Prim.Native.Nat.{ℕ, _+_}
-use mathlib.Core.Bool.{Bool, true, not}
+-- What the answers of this crate stand for: what the model finds in the records of an area, and the fields of records, as the code
+-- hands them over. Assumes nothing.
+use Prim.Native.Nat.{ℕ, _+_, _*_}
+use mathlib.Core.Path.{_≡_}
 use mathlib.Core.List.{List, [], _∷_}
-use Rattle.model.specs.Answer.{Fault, sound, broken, numberOf, Rule, le, lt}
-use Rattle.model.specs.Table.{Action, assign, read, write, stateFault, actionFault, edgeFault, member, stateWord, edgeWord, actionWord}
-use Rattle.table.specs.declared.Checked.{Checked}
-use Rattle.table.specs.declared.Checked.the-variants.{Sound, Broken}
+use Rattle.model.specs.Answer.{Fault, Rule, le, lt, word}
+use Rattle.model.specs.Table.{edgesAt, actionsAt, codeArea, Action, assign, read, write, stateFault, actionFault, edgeFault, stateWord}
 use Rattle.table.specs.declared.Area.{Area}
 use Rattle.table.specs.declared.Area.the-variants.{States, Actions, Edges}
 use Rattle.table.specs.declared.StateRecord.{StateRecord}
 use Rattle.table.specs.declared.EdgeRecord.{EdgeRecord}
 use Rattle.table.specs.declared.ActionRecord.{ActionRecord}
+use Rattle.table.specs.declared.Offsets.{Offsets}
 use Rattle.table.specs.declared.Set.{Set}
 use Rattle.table.specs.declared.Set.the-variants.{Nothing, Variable}
 
--- A finding as the code answers it: the number of the reason, and the record.
-unfoldable pub checkedOf : Fault → Checked
-checkedOf sound = Sound
-checkedOf (broken n r) = Broken (numberOf n) r
+-- The areas as they are cut out of an image: its code words, and where its edges and its actions begin.
+pub record Cut (image code : List ℕ) (offsets : Offsets) : Type 0 where
+  pub codes : code ≡ codeArea image
+  pub edges : offsets .edges ≡ edgesAt image
+  pub actions : offsets .actions ≡ actionsAt image
 
 -- What is found in record i of an area.
 unfoldable pub faultIn : Area → List ℕ → ℕ → Fault
@@ -35,11 +36,6 @@ setOf (assign v e) = Variable v
 setOf (read p v) = Variable v
 setOf (write p e) = Nothing
 
--- A variable that is set is none of the list's.
-unfoldable pub apartFrom : List ℕ → Set → Bool
-apartFrom l Nothing = true
-apartFrom l (Variable v) = not (member v l)
-
 -- The fields of state i.
 unfoldable pub stateRecord : List ℕ → ℕ → StateRecord
 stateRecord image i =
@@ -51,10 +47,12 @@ stateRecord image i =
       «on_false» = stateWord image i 4;
     }
 
--- The fields of edge i.
-unfoldable pub edgeRecord : List ℕ → ℕ → EdgeRecord
-edgeRecord image i = record { target = edgeWord image i 0; first = edgeWord image i 1; count = edgeWord image i 2 }
+-- The fields of edge i, where the edges begin at a place.
+unfoldable pub edgeRecord : List ℕ → ℕ → ℕ → EdgeRecord
+edgeRecord image at i =
+    record { target = word image (at + 3 * i); first = word image (at + 3 * i + 1); count = word image (at + 3 * i + 2) }
 
--- The fields of action i.
-unfoldable pub actionRecord : List ℕ → ℕ → ActionRecord
-actionRecord image i = record { kind = actionWord image i 0; a = actionWord image i 1; b = actionWord image i 2 }
+-- The fields of action i, where the actions begin at a place.
+unfoldable pub actionRecord : List ℕ → ℕ → ℕ → ActionRecord
+actionRecord image at i =
+    record { kind = word image (at + 3 * i); a = word image (at + 3 * i + 1); b = word image (at + 3 * i + 2) }

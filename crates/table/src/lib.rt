@@ -2,18 +2,14 @@
 // content; and the fields of its records. Each contract is the model's definition of the same thing. Assumes nothing.
 ghost use mathlib.Core.Path.{_≡_};
 ghost use mathlib.Core.List.{map};
-ghost use Prim.Native.Nat.{_+_, _≤_, _<_, _^_};
+ghost use Prim.Native.Nat.{_+_, _<_, _^_};
 ghost use Rattle.model.specs.Answer.{firstOf, upTo, allKept, word};
 ghost use Rattle.model.specs.Expr.{readAt, isParsed};
-ghost use Rattle.model.specs.Table.{edgesAt, actionsAt, codesAt, codeArea, stateWord, edgeWord, actionWord, headerRules, startFault, stateRules, stateFault, actionRules, actionFault, actionAt, edgeFault, variablesSet, member, distinct, tableFault};
-ghost use Rattle.table.specs.Checks.{checkedOf, faultIn, edgeRules, setOf, apartFrom, stateRecord, edgeRecord, actionRecord};
+ghost use Rattle.model.specs.Table.{edgesAt, actionsAt, codesAt, codeArea, headerRules, startFault, stateRules, stateFault, actionRules, actionFault, actionAt, edgeFault, variablesSet, member, distinct, tableFault};
+ghost use Rattle.fault.specs.Fault.{checkedOf, apart};
+ghost use Rattle.table.specs.Checks.{Cut, faultIn, edgeRules, setOf, stateRecord, edgeRecord, actionRecord};
 use expr::Extent;
-
-// What a check finds: nothing wrong, or the number of the first fault and its record.
-pub enum Checked {
-    Sound,
-    Broken { number: u32, record: u32 },
-}
+use fault::Checked;
 
 // The areas of records.
 pub enum Area {
@@ -43,6 +39,12 @@ pub struct ActionRecord {
     pub kind: u32,
     pub a: u32,
     pub b: u32,
+}
+
+// Where the edges and the actions begin.
+struct Offsets {
+    edges: u32,
+    actions: u32,
 }
 
 // The variable that an action sets.
@@ -101,62 +103,41 @@ pub fn code_area(image: &[u32]) -> &[u32]
     rest
 }
 
-// Word k of state i.
-fn state_word(image: &[u32], i: u32, k: u32) -> u32
-    ensures { λ r. ⌜ r ≡ stateWord (now (image .entry)) i k ⌝ }
-{
-    let at = 10 + 5 * (i as usize) + (k as usize);
-    word_at(image, at)
-}
-
-// Word k of edge i.
-fn edge_word(image: &[u32], i: u32, k: u32) -> u32
-    ensures { λ r. ⌜ r ≡ edgeWord (now (image .entry)) i k ⌝ }
-{
-    let at = edges_at(image) + 3 * (i as usize) + (k as usize);
-    word_at(image, at)
-}
-
-// Word k of action i.
-fn action_word(image: &[u32], i: u32, k: u32) -> u32
-    ensures { λ r. ⌜ r ≡ actionWord (now (image .entry)) i k ⌝ }
-{
-    let at = actions_at(image) + 3 * (i as usize) + (k as usize);
-    word_at(image, at)
-}
-
 // The fields of state i.
 pub fn state(image: &[u32], i: u32) -> StateRecord
     ensures { λ r. ⌜ r ≡ stateRecord (now (image .entry)) i ⌝ }
 {
+    let at = 10 + 5 * (i as usize);
     StateRecord {
-        kind: state_word(image, i, 0),
-        left: state_word(image, i, 1),
-        right: state_word(image, i, 2),
-        on_true: state_word(image, i, 3),
-        on_false: state_word(image, i, 4),
+        kind: word_at(image, at),
+        left: word_at(image, at + 1),
+        right: word_at(image, at + 2),
+        on_true: word_at(image, at + 3),
+        on_false: word_at(image, at + 4),
     }
 }
 
-// The fields of edge i.
-pub fn edge(image: &[u32], i: u32) -> EdgeRecord
-    ensures { λ r. ⌜ r ≡ edgeRecord (now (image .entry)) i ⌝ }
+// The fields of edge i, where the edges begin at a place; of a sound image that is its word 5.
+pub fn edge(image: &[u32], at: u32, i: u32) -> EdgeRecord
+    ensures { λ r. ⌜ r ≡ edgeRecord (now (image .entry)) at i ⌝ }
 {
+    let begin = (at as usize) + 3 * (i as usize);
     EdgeRecord {
-        target: edge_word(image, i, 0),
-        first: edge_word(image, i, 1),
-        count: edge_word(image, i, 2),
+        target: word_at(image, begin),
+        first: word_at(image, begin + 1),
+        count: word_at(image, begin + 2),
     }
 }
 
-// The fields of action i.
-pub fn action(image: &[u32], i: u32) -> ActionRecord
-    ensures { λ r. ⌜ r ≡ actionRecord (now (image .entry)) i ⌝ }
+// The fields of action i, where the actions begin at a place; of a sound image that is its word 7.
+pub fn action(image: &[u32], at: u32, i: u32) -> ActionRecord
+    ensures { λ r. ⌜ r ≡ actionRecord (now (image .entry)) at i ⌝ }
 {
+    let begin = (at as usize) + 3 * (i as usize);
     ActionRecord {
-        kind: action_word(image, i, 0),
-        a: action_word(image, i, 1),
-        b: action_word(image, i, 2),
+        kind: word_at(image, begin),
+        a: word_at(image, begin + 1),
+        b: word_at(image, begin + 2),
     }
 }
 
@@ -225,11 +206,11 @@ fn is_expression(code: &[u32], start: u32) -> bool
     }
 }
 
-// The check of one expression, by its start.
-fn check_start(image: &[u32], start: u32) -> Checked
-    ensures { λ r. ⌜ r ≡ checkedOf (startFault (codeArea (now (image .entry))) start) ⌝ }
+// The check of one expression of a code area, by its start.
+fn check_start(code: &[u32], start: u32) -> Checked
+    ensures { λ r. ⌜ r ≡ checkedOf (startFault (now (code .entry)) start) ⌝ }
 {
-    if is_expression(code_area(image), start) {
+    if is_expression(code, start) {
         return Checked::Sound;
     }
     Checked::Broken {
@@ -267,27 +248,24 @@ fn state_fits(edges: u32, kind: u32, left: u32, right: u32, taken: u32, other: u
 }
 
 // The check of one state: its own fields, then a test's left expression, then its right.
-fn check_state(image: &[u32], i: u32) -> Checked
+fn check_state(image: &[u32], code: &[u32], i: u32) -> Checked
+    requires { ⌜ now code ≡ codeArea (now image) ⌝ }
     ensures { λ r. ⌜ r ≡ checkedOf (stateFault (now (image .entry)) i) ⌝ }
 {
-    let kind = state_word(image, i, 0);
-    let left = state_word(image, i, 1);
-    let right = state_word(image, i, 2);
-    let on_true = state_word(image, i, 3);
-    let on_false = state_word(image, i, 4);
+    let s = state(image, i);
     let edges = word_at(image, 4);
-    if !state_fits(edges, kind, left, right, on_true, on_false) {
+    if !state_fits(edges, s.kind, s.left, s.right, s.on_true, s.on_false) {
         return Checked::Broken {
             number: 2,
             record: i,
         };
     }
-    if kind < 2 {
+    if s.kind < 2 {
         return Checked::Sound;
     }
-    match check_start(image, left) {
+    match check_start(code, s.left) {
         Checked::Broken { number, record } => Checked::Broken { number, record },
-        Checked::Sound => check_start(image, right),
+        Checked::Sound => check_start(code, s.right),
     }
 }
 
@@ -311,89 +289,90 @@ fn action_fits(kind: u32, a: u32, b: u32) -> bool
 }
 
 // The check of one action: its own fields, then the expression of an assign or a write.
-fn check_action(image: &[u32], i: u32) -> Checked
+fn check_action(image: &[u32], code: &[u32], at: u32, i: u32) -> Checked
+    requires { ⌜ (now code ≡ codeArea (now image)) × (at ≡ actionsAt (now image)) ⌝ }
     ensures { λ r. ⌜ r ≡ checkedOf (actionFault (now (image .entry)) i) ⌝ }
 {
-    let kind = action_word(image, i, 0);
-    let a = action_word(image, i, 1);
-    let b = action_word(image, i, 2);
-    if !action_fits(kind, a, b) {
+    let a = action(image, at, i);
+    if !action_fits(a.kind, a.a, a.b) {
         return Checked::Broken {
             number: 3,
             record: i,
         };
     }
-    if kind == 1 {
+    if a.kind == 1 {
         return Checked::Sound;
     }
-    check_start(image, b)
+    check_start(code, a.b)
 }
 
 // The variable that action i sets.
-fn set_by(image: &[u32], i: u32) -> Set
+fn set_by(image: &[u32], at: u32, i: u32) -> Set
+    requires { ⌜ at ≡ actionsAt (now image) ⌝ }
     ensures { λ r. ⌜ r ≡ setOf (actionAt (now (image .entry)) i) ⌝ }
 {
-    let kind = action_word(image, i, 0);
-    if kind == 0 {
-        return Set::Variable(action_word(image, i, 1));
+    let a = action(image, at, i);
+    if a.kind == 0 {
+        return Set::Variable(a.a);
     }
-    if kind == 1 {
-        return Set::Variable(action_word(image, i, 2));
+    if a.kind == 1 {
+        return Set::Variable(a.b);
     }
     Set::Nothing
 }
 
 // Whether action i sets the variable.
-fn is_set(image: &[u32], variable: u32, i: u32) -> bool
+fn is_set(image: &[u32], at: u32, variable: u32, i: u32) -> bool
+    requires { ⌜ at ≡ actionsAt (now image) ⌝ }
     ensures { λ r. ⌜ r ≡ member variable (variablesSet (map (actionAt (now (image .entry))) (upTo i 1))) ⌝ }
 {
-    match set_by(image, i) {
+    match set_by(image, at, i) {
         Set::Nothing => false,
         Set::Variable(v) => variable == v,
     }
 }
 
 // Whether one of some actions sets the variable.
-fn sets(image: &[u32], variable: u32, first: u32, count: u32) -> bool
-    requires { ⌜ first + count < 2 ^ 32 ⌝ }
+fn sets(image: &[u32], at: u32, variable: u32, first: u32, count: u32) -> bool
+    requires { ⌜ (at ≡ actionsAt (now image)) × (first + count < 2 ^ 32) ⌝ }
     ensures { λ r. ⌜ r ≡ member variable (variablesSet (map (actionAt (now (image .entry))) (upTo first count))) ⌝ }
 {
-    let mut at = first;
+    let mut i = first;
     let mut left = count;
     while 0 < left {
-        if is_set(image, variable, at) {
+        if is_set(image, at, variable, i) {
             return true;
         }
-        at += 1;
+        i += 1;
         left -= 1;
     }
     false
 }
 
 // Whether action i sets no variable that one of the n behind it sets.
-fn is_apart(image: &[u32], i: u32, n: u32) -> bool
-    requires { ⌜ i + 1 + n < 2 ^ 32 ⌝ }
-    ensures { λ r. ⌜ r ≡ apartFrom (variablesSet (map (actionAt (now (image .entry))) (upTo (i + 1) n))) (setOf (actionAt (now (image .entry)) i)) ⌝ }
+fn is_apart(image: &[u32], at: u32, i: u32, n: u32) -> bool
+    requires { ⌜ (at ≡ actionsAt (now image)) × (i + 1 + n < 2 ^ 32) ⌝ }
+    ensures { λ r. ⌜ r ≡ apart (variablesSet (map (actionAt (now (image .entry))) (upTo i 1))) (variablesSet (map (actionAt (now (image .entry))) (upTo (i + 1) n))) ⌝ }
 {
-    match set_by(image, i) {
+    match set_by(image, at, i) {
         Set::Nothing => true,
-        Set::Variable(v) => !sets(image, v, i + 1, n),
+        Set::Variable(v) => !sets(image, at, v, i + 1, n),
     }
 }
 
 // Whether no two of some actions set the same variable.
-fn sets_once(image: &[u32], first: u32, count: u32) -> bool
-    requires { ⌜ first + count < 2 ^ 32 ⌝ }
+fn sets_once(image: &[u32], at: u32, first: u32, count: u32) -> bool
+    requires { ⌜ (at ≡ actionsAt (now image)) × (first + count < 2 ^ 32) ⌝ }
     ensures { λ r. ⌜ r ≡ distinct (variablesSet (map (actionAt (now (image .entry))) (upTo first count))) ⌝ }
 {
-    let mut at = first;
+    let mut i = first;
     let mut left = count;
     while 0 < left {
         left -= 1;
-        if !is_apart(image, at, left) {
+        if !is_apart(image, at, i, left) {
             return false;
         }
-        at += 1;
+        i += 1;
     }
     true
 }
@@ -413,21 +392,24 @@ fn edge_fits(states: u32, actions: u32, target: u32, first: u32, count: u32) -> 
 }
 
 // The check of one edge: its own fields, then that its actions set no variable twice.
-fn check_edge(image: &[u32], i: u32) -> Checked
+fn check_edge(image: &[u32], edges: u32, actions: u32, i: u32) -> Checked
+    requires { ⌜ (edges ≡ edgesAt (now image)) × (actions ≡ actionsAt (now image)) ⌝ }
     ensures { λ r. ⌜ r ≡ checkedOf (edgeFault (now (image .entry)) i) ⌝ }
 {
-    let target = edge_word(image, i, 0);
-    let first = edge_word(image, i, 1);
-    let count = edge_word(image, i, 2);
-    let states = word_at(image, 2);
-    let actions = word_at(image, 6);
-    if !edge_fits(states, actions, target, first, count) {
+    let e = edge(image, edges, i);
+    if !edge_fits(
+        word_at(image, 2),
+        word_at(image, 6),
+        e.target,
+        e.first,
+        e.count,
+    ) {
         return Checked::Broken {
             number: 4,
             record: i,
         };
     }
-    if sets_once(image, first, count) {
+    if sets_once(image, actions, e.first, e.count) {
         return Checked::Sound;
     }
     Checked::Broken {
@@ -437,23 +419,25 @@ fn check_edge(image: &[u32], i: u32) -> Checked
 }
 
 // The check of one record of an area.
-fn check_record(image: &[u32], area: Area, i: u32) -> Checked
+fn check_record(image: &[u32], code: &[u32], offsets: Offsets, area: Area, i: u32) -> Checked
+    requires { ⌜ Cut (now image) (now code) offsets ⌝ }
     ensures { λ r. ⌜ r ≡ checkedOf (faultIn area (now (image .entry)) i) ⌝ }
 {
     match area {
-        Area::States => check_state(image, i),
-        Area::Actions => check_action(image, i),
-        Area::Edges => check_edge(image, i),
+        Area::States => check_state(image, code, i),
+        Area::Actions => check_action(image, code, offsets.actions, i),
+        Area::Edges => check_edge(image, offsets.edges, offsets.actions, i),
     }
 }
 
 // The first fault along the n records of an area.
-fn check_area(image: &[u32], area: Area, n: u32) -> Checked
+fn check_area(image: &[u32], code: &[u32], offsets: Offsets, area: Area, n: u32) -> Checked
+    requires { ⌜ Cut (now image) (now code) offsets ⌝ }
     ensures { λ r. ⌜ r ≡ checkedOf (firstOf (faultIn area (now (image .entry))) (upTo 0 n)) ⌝ }
 {
     let mut i = 0;
     while i < n {
-        match check_record(image, area, i) {
+        match check_record(image, code, offsets, area, i) {
             Checked::Broken { number, record } => {
                 return Checked::Broken { number, record };
             }
@@ -474,11 +458,16 @@ pub fn check(image: &[u32]) -> Checked
             record: 0,
         };
     }
-    match check_area(image, Area::States, word_at(image, 2)) {
+    let code = code_area(image);
+    let offsets = Offsets {
+        edges: word_at(image, 5),
+        actions: word_at(image, 7),
+    };
+    match check_area(image, code, offsets, Area::States, word_at(image, 2)) {
         Checked::Broken { number, record } => Checked::Broken { number, record },
-        Checked::Sound => match check_area(image, Area::Actions, word_at(image, 6)) {
+        Checked::Sound => match check_area(image, code, offsets, Area::Actions, word_at(image, 6)) {
             Checked::Broken { number, record } => Checked::Broken { number, record },
-            Checked::Sound => check_area(image, Area::Edges, word_at(image, 4)),
+            Checked::Sound => check_area(image, code, offsets, Area::Edges, word_at(image, 4)),
         },
     }
 }

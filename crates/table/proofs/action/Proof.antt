@@ -1,32 +1,48 @@
--- `table::action` has the model's words of an action. Assumes nothing.
+-- `table::action` has the words of an action, one after another from where the actions begin. Assumes nothing.
 use borrow.Author.Needs.{needs}
 use Rattle.table.specs.Checks.{actionRecord}
 use Rattle.table.proofs.action.Statement.{statement}
 use Rattle.table.proofs.action.Tie as tie
 
-action-word-requires : tie.Need-action-word-requires
-action-word-requires c κs = search needs
+mul-begin : tie.Need-mul-begin
+mul-begin c = search needs
 
-action-word-requires-2 : tie.Need-action-word-requires-2
-action-word-requires-2 c κs = search needs
+add-begin : tie.Need-add-begin
+add-begin c = search needs
 
-action-word-requires-3 : tie.Need-action-word-requires-3
-action-word-requires-3 c κs = search needs
+word-at-requires : tie.Need-word-at-requires
+word-at-requires c κs = search needs
+
+add-word-at : tie.Need-add-word-at
+add-word-at c = search needs
+
+word-at-requires-2 : tie.Need-word-at-requires-2
+word-at-requires-2 c κs = search needs
+
+add-word-at-2 : tie.Need-add-word-at-2
+add-word-at-2 c = search needs
+
+word-at-requires-3 : tie.Need-word-at-requires-3
+word-at-requires-3 c κs = search needs
 
 returns : tie.Need-returns
 unfolding actionRecord
 returns c =
     λ j. record {
-      kind = c .before .before .action-word .ensures j;
-      a = c .before .action-word2 .ensures j;
-      b = c .action-word3 .ensures j;
+      kind = c .before .before .word-at .ensures j;
+      a = c .before .word-at2 .ensures j;
+      b = c .word-at3 .ensures j;
     }
 
 pub action-spec : {M : Type 1} → statement M
 action-spec =
     tie.close
     (tie.spec
-    action-word-requires
-    action-word-requires-2
-    action-word-requires-3
+    mul-begin
+    add-begin
+    word-at-requires
+    add-word-at
+    word-at-requires-2
+    add-word-at-2
+    word-at-requires-3
     returns)

@@ -1,22 +1,22 @@
 -- `table::check_area` is the model's first finding along an area: what is found from a record on is what is found in all. Assumes nothing.
 use Prim.Native.Nat.{_-_}
+use Rattle.fault.proofs.Along.{Along, along-start, along-fine, along-broken, along-end}
 use Rattle.table.specs.Checks.{faultIn}
-use Rattle.table.proofs.Areas.{Along, along-start, along-fine, along-broken, along-end}
 use borrow.Author.Needs.{needs}
 use Rattle.table.proofs.check_area.Statement.{statement}
 use Rattle.table.proofs.check_area.Tie as tie
 
 abbrev Inv-loop : tie.InvT-loop
-Inv-loop image area n i₀ i = Along (faultIn area image) n i
+Inv-loop image code offsets area n i₀ i = Along (faultIn area image) n i
 
 abbrev μ-loop : tie.MeasureT-loop
-μ-loop image area n i₀ i = n - i
+μ-loop image code offsets area n i₀ i = n - i
 
 loop-holds : tie.Need-loop-holds Inv-loop μ-loop
 loop-holds c = along-start _ _
 
 check-record-requires : tie.Need-check-record-requires Inv-loop μ-loop
-check-record-requires c κs = search needs
+check-record-requires c κs = c .before .before .before .before .pre
 
 enum-known-number : tie.Need-enum-known-number Inv-loop μ-loop
 enum-known-number c = search needs

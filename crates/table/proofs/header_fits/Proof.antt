@@ -2,8 +2,7 @@
 use Prim.Native.Nat.{_+_}
 use mathlib.Core.Path.{sym, _∙_}
 use Rattle.model.specs.Table.{states, edges, actions, codes, headerRules}
-use Rattle.table.proofs.Rules.{all-kept, not-kept}
-use Rattle.table.proofs.Records.{same-one, same-both, at-most, at-least, over, under}
+use Rattle.fault.proofs.Rules.{all-kept, not-kept, same-one, same-both, at-most, at-least, over, under}
 use borrow.Author.Needs.{needs}
 use Rattle.table.proofs.header_fits.Statement.{statement}
 use Rattle.table.proofs.header_fits.Tie as tie

@@ -1,5 +1,6 @@
 -- `table::is_set` is whether the model's action sets the variable. Assumes nothing.
 use Rattle.model.specs.Table.{actionAt}
+use Rattle.fault.proofs.Search.{member-none, member-one}
 use Rattle.table.proofs.Areas.{one-nothing, one-variable}
 use borrow.Author.Needs.{needs}
 use Rattle.table.proofs.is_set.Statement.{statement}
@@ -15,10 +16,10 @@ enum-known-v : tie.Need-enum-known-v
 enum-known-v c = search needs
 
 returns : tie.Need-returns
-returns c = one-nothing (actionAt (c .before .before .before .before .args .image .now)) (c .before .before .before .before .args .variable) (c .before .before .before .before .args .i) (c .before .before .set-by .ensures) (c .enum-told .given .1)
+returns c = member-none _ (one-nothing (actionAt (c .before .before .before .before .args .image .now)) _ (c .before .before .set-by .ensures) (c .enum-told .given .1))
 
 returns-2 : tie.Need-returns-2
-returns-2 c = one-variable (actionAt (c .before .before .before .before .before .args .image .now)) (c .before .before .before .before .before .args .variable) (c .before .before .before .before .before .args .i) (c .before .before .before .set-by .ensures) (c .before .v .given .1)
+returns-2 c = member-one _ _ (one-variable (actionAt (c .before .before .before .before .before .args .image .now)) _ (c .before .before .before .set-by .ensures) (c .before .v .given .1))
 
 pub is-set-spec : {M : Type 1} → statement M
 is-set-spec =

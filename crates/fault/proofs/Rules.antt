@@ -1,6 +1,6 @@
 -- Rules of a record, decided in code: where all facts hold the rules are kept, where they cannot all hold they are not; and what then
--- is answered. Assumes nothing.
-use Prim.Native.Nat.{ℕ}
+-- is answered; and what holds of a word that was read holds of the image's. Assumes nothing.
+use Prim.Native.Nat.{ℕ, _≤_, _<_}
 use mathlib.Core.Path.{_≡_, refl, sym, _∙_}
 use mathlib.Core.Bool.{Bool, true, false}
 use mathlib.Core.List.{List, [], _∷_}
@@ -8,9 +8,9 @@ use native.Mathlib.Omega.{arith}
 use borrow.Author.Tests.{le-leb, lt-ltb, eq-eqb}
 use Rattle.model.specs.Answer.{Reason, wrongTable, Fault, sound, broken, numberOf, _then_, Rule, le, lt, is, so, kept, allKept, check}
 use Rattle.model.proofs.Basics.{Fact, Facts, and-both, check-facts}
-use Rattle.table.specs.Checks.{checkedOf}
-use Rattle.table.specs.declared.Checked.{Checked}
-use Rattle.table.specs.declared.Checked.the-variants.{Sound, Broken}
+use Rattle.fault.specs.Fault.{checkedOf}
+use Rattle.fault.specs.declared.Checked.{Checked}
+use Rattle.fault.specs.declared.Checked.the-variants.{Sound, Broken}
 
 keep : (r : Rule) → Fact r → kept r ≡ true
 unfolding kept
@@ -81,3 +81,34 @@ pub is-sound : {r : Checked} (f : Fault) → r ≡ checkedOf f → r ≡ Sound �
 unfolding checkedOf
 is-sound sound e k = refl
 is-sound (broken m j) e k = absurd (let z : _≡_ {A = ℕ} 0 1 = cc in omega arith)
+
+pub then-sound : (f : Fault) → (f then sound) ≡ f
+unfolding _then_
+then-sound sound = refl
+then-sound (broken n r) = refl
+
+-- A single test as a rule.
+pub so-kept : (b : Bool) → b ≡ allKept (so b ∷ [])
+unfolding allKept kept
+so-kept true = refl
+so-kept false = refl
+
+-- What was read stands for what is in the image.
+
+pub same-one : {a b n : ℕ} → a ≡ b → a ≡ n → b ≡ n
+same-one p q = cc
+
+pub same-both : {a b m n : ℕ} → a ≡ b → m ≡ n → a ≡ m → b ≡ n
+same-both p q r = cc
+
+pub at-most : {a b n : ℕ} → a ≡ b → a ≤ n → b ≤ n
+at-most p h = omega arith
+
+pub at-least : {a b n : ℕ} → a ≡ b → n ≤ a → n ≤ b
+at-least p h = omega arith
+
+pub over : {a b n : ℕ} → a ≡ b → n < a → b ≤ n → ⊥
+over p h k = omega arith
+
+pub under : {a b n : ℕ} → a ≡ b → a < n → n ≤ b → ⊥
+under p h k = omega arith

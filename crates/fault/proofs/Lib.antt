@@ -1,0 +1,3 @@
+pub mod Rules
+pub mod Along
+pub mod Search
