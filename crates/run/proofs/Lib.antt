@@ -1,0 +1,10 @@
+pub mod Ports
+pub mod Holding
+pub mod Input
+pub mod Choosing
+pub mod Full
+pub mod Spending
+pub mod Acting
+pub mod Walking
+pub mod Answering
+pub mod Unique

@@ -1,0 +1,3 @@
+-- What the engine holds, and what its answers stand for.
+pub mod Held
+pub mod Answers
