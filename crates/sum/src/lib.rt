@@ -36,14 +36,14 @@ pub enum Size {
 
 // Products being collected, or too large.
 struct Grown {
-    size: Size,
     gather: Gather,
+    size: Size,
 }
 
 // What an operation answers: the sum, which is empty where it is too large.
 pub struct Added {
-    pub size: Size,
     pub sum: Sum,
+    pub size: Size,
 }
 
 // The entries of the empty sum.

@@ -1,0 +1,4 @@
+pub mod Settling
+pub mod Searching
+pub mod Paper
+pub mod Unique

@@ -1,0 +1,2 @@
+-- The rules on the two sides of a path.
+pub mod Rules
