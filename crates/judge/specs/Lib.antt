@@ -1,0 +1,2 @@
+-- The judgement as the code answers it.
+pub mod Judging
