@@ -84,7 +84,7 @@ pub filling-start : (bytes out : List ℕ) → length bytes / 4 ≤ length out �
 filling-start bytes out h = record { fits = h; within = omega arith; long = refl; so = refl }
 
 -- A store behind the first i elements of s adds its next element.
-front-store : (s d : List ℕ) (i : ℕ) → i < length s → i < length d → set (take i s ++ drop i d) i (getD s i 0) ≡ take (i + 1) s ++ drop (i + 1) d
+pub front-store : (s d : List ℕ) (i : ℕ) → i < length s → i < length d → set (take i s ++ drop i d) i (getD s i 0) ≡ take (i + 1) s ++ drop (i + 1) d
 front-store s d i h k =
     let z : 0 + i ≡ i = omega arith in
     let y : 0 + suc i ≡ suc i = omega arith in

@@ -11,6 +11,7 @@ use lib.Seq.{sets, sets-eq}
 use borrow.Author.Tests.{ltb-true, ltb-false, lt-ltb, le-ltb}
 use Rattle.model.specs.Word.{base, wrap, negated, signed}
 use Rattle.files.specs.Files.{decimalIn, decimalOf, printedOf, placed}
+use Rattle.files.specs.Lines.{threeOf, coupleLine, endLine}
 
 -- Any fuel above the number gives the same digits.
 
@@ -79,11 +80,6 @@ placed-more at b (a ∷ text) out =
     let e : at + suc (length text) ≡ suc at + length text = omega arith in
     rw e (placed-more (suc at) b text (set out at a))
 
--- A text behind a first byte.
-pub placed-behind : (b : ℕ) (text out : List ℕ) → placed 1 text (set out 0 b) ≡ placed 0 (b ∷ text) out
-unfolding placed
-placed-behind b text out = refl
-
 -- A text that the buffer has room for stands in it, and the rest is as it was.
 
 placed-sets : (at : ℕ) (text out : List ℕ) → placed at text out ≡ sets out at text
@@ -97,31 +93,52 @@ placed-front text out h =
     let k : 0 + length text ≤ length out = omega arith in
     placed-sets 0 text out ∙ sets-eq text out 0 k ∙ rw z refl
 
--- What a place and a buffer are where the signed number of the word x was written into the front of out.
-abbrev pub Printed : ℕ → List ℕ → ℕ → List ℕ → Type 0
-Printed x out r out′ = (r ≡ length (printedOf (signed base x))) × (out′ ≡ placed 0 (printedOf (signed base x)) out)
+-- What a place and a buffer are where a text was written from a place on.
+abbrev pub Put : ℕ → List ℕ → List ℕ → ℕ → List ℕ → Type 0
+Put at text out r out′ = (r ≡ at + length text) × (out′ ≡ placed at text out)
+
+-- A text from the first place on ends at its length.
+pub put-front : (text out : List ℕ) {r : ℕ} {out′ : List ℕ} → Put 0 text out r out′ → (r ≡ length text) × (out′ ≡ placed 0 text out)
+put-front text out p = (omega (arith, p .0), p .1)
+
+-- One byte is written.
+pub put-byte : (at b : ℕ) (out : List ℕ) → Put at (b ∷ []) out (at + 1) (set out at b)
+put-byte at b out = (refl, placed-one at b out)
+
+-- A text, and then one behind it.
+
+placed-join : (at : ℕ) (s t out : List ℕ) → placed (at + length s) t (placed at s out) ≡ placed at (s ++ t) out
+unfolding placed
+placed-join at [] t out =
+    let e : at + 0 ≡ at = omega arith in
+    rw e refl
+placed-join at (b ∷ s) t out =
+    let e : at + suc (length s) ≡ suc at + length s = omega arith in
+    rw e (placed-join (suc at) s t (set out at b))
+
+pub put-then : (at : ℕ) (s t out : List ℕ) {r r′ : ℕ} {out₁ out₂ : List ℕ} → Put at s out r out₁ → Put r t out₁ r′ out₂ → Put at (s ++ t) out r′ out₂
+put-then at s t out p q =
+    (omega (arith, p .0, q .0, length-append s t), q .1 ∙ rw (p .0, p .1) (placed-join at s t out))
 
 -- A word below 2^31 is written as it is.
-pub printed-plain : (x : ℕ) {r : ℕ} (out : List ℕ) {out′ : List ℕ}
+pub printed-plain : (x at : ℕ) {r : ℕ} (out : List ℕ) {out′ : List ℕ}
     → x < 2147483648
-    → r ≡ 0 + length (decimalOf x)
-    → out′ ≡ placed 0 (decimalOf x) out
-    → Printed x out r out′
+    → Put at (decimalOf x) out r out′
+    → Put at (printedOf (signed base x)) out r out′
 unfolding printedOf signed
-printed-plain x out h p q = rw (lt-ltb x 2147483648 h) (omega arith, q)
+printed-plain x at out h p = rw (lt-ltb x 2147483648 h) p
 
 -- Any other word is written as a minus and then its negation.
-pub printed-minus : (x n : ℕ) {r : ℕ} (out : List ℕ) {out′ : List ℕ}
+pub printed-minus : (x n at : ℕ) {r : ℕ} (out : List ℕ) {out′ : List ℕ}
     → 2147483648 ≤ x
     → x < 4294967296
     → n ≡ negated base x
-    → r ≡ 1 + length (decimalOf n)
-    → out′ ≡ placed 1 (decimalOf n) (set out 0 45)
-    → Printed x out r out′
+    → Put (at + 1) (decimalOf n) (set out at 45) r out′
+    → Put at (printedOf (signed base x)) out r out′
 unfolding printedOf signed negated wrap
-printed-minus x n out h k e p q =
+printed-minus x n at out h k e p =
     let m : suc (4294967296 - suc x) ≡ n = omega arith in
-    rw (le-ltb x 2147483648 h, m) (omega arith, q ∙ placed-behind 45 (decimalOf n) out)
+    rw (le-ltb x 2147483648 h, m) (put-then at (45 ∷ []) (decimalOf n) out (put-byte at 45 out) p)
 
 -- The signed number of a word takes at most 11 bytes.
 
@@ -132,3 +149,38 @@ printed-by x false e h = rw e (omega (arith, length-word (suc (4294967296 - suc 
 
 pub printed-length : (x : ℕ) → x < 4294967296 → length (printedOf (signed base x)) ≤ 11
 printed-length x h = printed-by x (ltb x 2147483648) refl h
+
+-- The three numbers of a line, each with the byte behind it.
+pub three-put : (a b c at : ℕ) (out : List ℕ) {r₁ r₂ r₃ : ℕ} {out₁ out₂ out₃ : List ℕ}
+    → Put at (decimalOf a) out r₁ out₁
+    → Put (r₁ + 1) (decimalOf b) (set out₁ r₁ 32) r₂ out₂
+    → Put (r₂ + 1) (decimalOf c) (set out₂ r₂ 32) r₃ out₃
+    → Put at (threeOf a b c) out (r₃ + 1) (set out₃ r₃ 10)
+unfolding threeOf
+three-put a b c at out {r₁} {r₂} {r₃} {out₁} {out₂} {out₃} p q s =
+    let third = decimalOf c ++ (10 ∷ []) in
+    let second = decimalOf b ++ (32 ∷ third) in
+    let end = put-then (r₂ + 1) (decimalOf c) (10 ∷ []) (set out₂ r₂ 32) s (put-byte r₃ 10 out₃) in
+    let behind-b = put-then r₂ (32 ∷ []) third out₂ (put-byte r₂ 32 out₂) end in
+    let from-b = put-then (r₁ + 1) (decimalOf b) (32 ∷ third) (set out₁ r₁ 32) q behind-b in
+    let behind-a = put-then r₁ (32 ∷ []) second out₁ (put-byte r₁ 32 out₁) from-b in
+    put-then at (decimalOf a) (32 ∷ second) out p behind-a
+
+-- A couple's port and number, each with the byte behind it.
+pub couple-put : (port x : ℕ) (out : List ℕ) {r₁ r₂ : ℕ} {out₁ out₂ : List ℕ}
+    → Put 0 (decimalOf port) out r₁ out₁
+    → Put (r₁ + 1) (printedOf (signed base x)) (set out₁ r₁ 32) r₂ out₂
+    → (r₂ + 1 ≡ length (coupleLine port x)) × (set out₂ r₂ 10 ≡ placed 0 (coupleLine port x) out)
+unfolding coupleLine
+couple-put port x out {r₁} {r₂} {out₁} {out₂} p q =
+    let value = printedOf (signed base x) in
+    let end = put-then (r₁ + 1) value (10 ∷ []) (set out₁ r₁ 32) q (put-byte r₂ 10 out₂) in
+    let behind-port = put-then r₁ (32 ∷ []) (value ++ (10 ∷ [])) out₁ (put-byte r₁ 32 out₁) end in
+    put-front (coupleLine port x) out (put-then 0 (decimalOf port) (32 ∷ (value ++ (10 ∷ []))) out p behind-port)
+
+-- `end ` and then three numbers.
+pub end-put : (number state edges : ℕ) (out : List ℕ) {r : ℕ} {out′ : List ℕ}
+    → Put 4 (threeOf number state edges) (set (set (set (set out 0 101) 1 110) 2 100) 3 32) r out′
+    → (r ≡ length (endLine number state edges)) × (out′ ≡ placed 0 (endLine number state edges) out)
+unfolding endLine placed
+end-put number state edges out p = (omega (arith, p .0), p .1)

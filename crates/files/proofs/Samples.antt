@@ -2,7 +2,8 @@
 use mathlib.Core.Path.{_≡_, refl}
 use mathlib.Core.List.{[], _∷_}
 use Rattle.model.specs.Word.{base, signed}
-use Rattle.files.specs.Files.{wordsOf, byFit, takenOf, filledOf, digits, valueOn, valueOf, numberOf, decimalIn, decimalOf, printedOf}
+use Rattle.files.specs.Files.{wordsOf, byFit, takenOf, filledOf, digits, valueOn, valueOf, numberOf, decimalIn, decimalOf, printedOf, placed}
+use Rattle.files.specs.Lines.{threeOf, coupleLine, endLine, fits, behind, appended}
 use Rattle.files.specs.declared.Taken.the-variants.{Ragged, TooLong}
 use Rattle.files.specs.declared.Decimal.the-variants.{Word, NotOne}
 
@@ -32,3 +33,18 @@ pub texts : (printedOf (signed base 4294967290) ≡ 45 ∷ 54 ∷ [])
     × (printedOf (signed base 2147483648) ≡ 45 ∷ 50 ∷ 49 ∷ 52 ∷ 55 ∷ 52 ∷ 56 ∷ 51 ∷ 54 ∷ 52 ∷ 56 ∷ [])
 unfolding printedOf signed decimalOf decimalIn
 texts = (refl, refl, refl, refl)
+
+-- The couple of port 1 and the word 4294967290 is the line `1 -6`, the sample run's end the line `end 22 0 4`, and an acceptance `0 0 0`.
+pub lines : (coupleLine 1 4294967290 ≡ 49 ∷ 32 ∷ 45 ∷ 54 ∷ 10 ∷ [])
+    × (endLine 22 0 4 ≡ 101 ∷ 110 ∷ 100 ∷ 32 ∷ 50 ∷ 50 ∷ 32 ∷ 48 ∷ 32 ∷ 52 ∷ 10 ∷ [])
+    × (threeOf 0 0 0 ≡ 48 ∷ 32 ∷ 48 ∷ 32 ∷ 48 ∷ 10 ∷ [])
+unfolding coupleLine endLine threeOf printedOf signed decimalOf decimalIn
+lines = (refl, refl, refl)
+
+-- A line of four bytes is appended behind the first of a text of five, and not behind the second.
+pub appends : (appended 1 (1 ∷ 2 ∷ 3 ∷ 4 ∷ []) (9 ∷ 9 ∷ 9 ∷ 9 ∷ 9 ∷ []) ≡ 9 ∷ 1 ∷ 2 ∷ 3 ∷ 4 ∷ [])
+    × (behind 1 (1 ∷ 2 ∷ 3 ∷ 4 ∷ []) (9 ∷ 9 ∷ 9 ∷ 9 ∷ 9 ∷ []) ≡ 5)
+    × (appended 2 (1 ∷ 2 ∷ 3 ∷ 4 ∷ []) (9 ∷ 9 ∷ 9 ∷ 9 ∷ 9 ∷ []) ≡ 9 ∷ 9 ∷ 9 ∷ 9 ∷ 9 ∷ [])
+    × (behind 2 (1 ∷ 2 ∷ 3 ∷ 4 ∷ []) (9 ∷ 9 ∷ 9 ∷ 9 ∷ 9 ∷ []) ≡ 2)
+unfolding appended behind fits placed
+appends = (refl, refl, refl, refl)

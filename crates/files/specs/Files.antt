@@ -1,5 +1,6 @@
 -- What both programs read and print: the words of a file's bytes, low byte first, a decimal number in an argument, and a signed number
--- in decimal. Assumes nothing.
+-- in decimal. 01, "The table image": "a file whose length isn't a multiple of four is refused 1 (table), 6 (correspondence) or 24 (input
+-- words, also when over 8,192)". Assumes nothing.
 use Prim.Native.Nat.{ℕ, zero, suc, _+_, _-_, _*_, _/_, _%_}
 use mathlib.Core.Bool.{Bool, true, cond, _&&_}
 use mathlib.Core.List.{List, [], _∷_, _++_}
@@ -37,6 +38,12 @@ takenOf bytes room = byFit bytes room (Whole (length bytes / 4)) Ragged TooLong
 -- it was where they were not taken.
 unfoldable pub filledOf : List ℕ → List ℕ → List ℕ
 filledOf bytes out = byFit bytes (length out) (wordsOf bytes ++ drop (length bytes / 4) out) out out
+
+-- How many words are lent after words were taken: those that were, or a number where none were.
+unfoldable pub lentOf : ℕ → Taken → ℕ
+lentOf other (Whole n) = n
+lentOf other Ragged = other
+lentOf other TooLong = other
 
 -- Every byte of a text is a decimal digit: 48 is `0` and 57 is `9`.
 unfoldable pub digits : List ℕ → Bool

@@ -11,19 +11,16 @@ put-requires : tie.Need-put-requires
 put-requires c κs = omega (arith, length-word (c .before .before .args .x) (omega arith))
 
 returns : tie.Need-returns
-returns c =
-    printed-plain
-    (c .before .before .before .args .x)
-    (now (c .before .before .before .args .out))
-    (omega arith)
-    (c .put .ensures .0)
-    (c .put .ensures .1)
+returns c = printed-plain (c .before .before .before .args .x) (c .before .before .before .args .at) (now (c .before .before .before .args .out)) (omega arith) (c .put .ensures)
 
 element-write-out : tie.Need-element-write-out
-element-write-out c = search needs
+element-write-out c = omega arith
 
 negated-requires : tie.Need-negated-requires
 negated-requires c κs = search needs
+
+add-put : tie.Need-add-put
+add-put c = omega arith
 
 put-requires-2 : tie.Need-put-requires-2
 put-requires-2 c κs = omega (arith, length-word (c .before .negated .result) (omega arith))
@@ -33,12 +30,21 @@ returns-2 c =
     printed-minus
     (c .before .before .before .before .args .x)
     (c .before .before .negated .result)
+    (c .before .before .before .before .args .at)
     (now (c .before .before .before .before .args .out))
     (omega arith)
     (omega arith)
     (c .before .before .negated .ensures)
-    (c .put2 .ensures .0)
-    (c .put2 .ensures .1)
+    (c .put2 .ensures)
 
 pub put-signed-spec : {M : Type 1} → statement M
-put-signed-spec = tie.close (tie.spec put-requires returns element-write-out negated-requires put-requires-2 returns-2)
+put-signed-spec =
+    tie.close
+    (tie.spec
+    put-requires
+    returns
+    element-write-out
+    negated-requires
+    add-put
+    put-requires-2
+    returns-2)
