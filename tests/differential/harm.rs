@@ -47,7 +47,7 @@ pub fn relisted(rng: &mut Rng, list: &mut List) {
     let pairs = list.pairs.len();
     let any = list.pairs[rng.below(pairs)];
     let pair = &mut list.pairs[p];
-    match rng.below(14) {
+    match rng.below(16) {
         0 if t + 1 < list.paths.len() => list.paths.swap(t, t + 1),
         1 if pair[5] > 0 => pair[5] -= 1,
         2 => pair[5] += 1,
@@ -60,7 +60,7 @@ pub fn relisted(rng: &mut Rng, list: &mut List) {
         }
         7 if !list.links.is_empty() => list.links[l][rng.below(2)] = rng.below(16) as u32,
         8 if !list.paths.is_empty() => list.paths[t][4] = rng.below(pairs) as u32,
-        9 if !list.paths.is_empty() => list.paths[t] = [list.paths[t][0], list.paths[t][1], 0, 0, 0, 1],
+        9 | 13 | 14 if !list.paths.is_empty() => list.paths[t] = [list.paths[t][0], list.paths[t][1], 0, 0, 0, 1],
         10 if !list.paths.is_empty() => {
             let side = 2 * rng.below(2);
             let length = list.paths[t][side].clamp(1, 32);

@@ -224,6 +224,26 @@ fn sums(put: &mut impl FnMut(&str, [Vec<u32>; 3], u32)) {
     put("32 tests, a path short", one_way(&comb, &paths[..32]), 11);
 }
 
+// A test made twice: the path that takes its two sides is impossible, the one that takes a side twice is not.
+fn marks(put: &mut impl FnMut(&str, [Vec<u32>; 3], u32)) {
+    let test = |yes, no| State::Test(4, Expr::Variable(3), Expr::Variable(5), yes, no);
+    let edge = |target| Edge { target, acts: vec![] };
+    let m = Machine { states: vec![test(0, 1), State::Stop, test(1, 2)], edges: vec![edge(2), edge(1), edge(1)] };
+    let (image, _) = plain(&m);
+    let took = |length, choices| [length, choices, length, choices, 1, 0];
+    let never = |length, choices| [length, choices, 0, 0, 0, 1];
+    let cases = [
+        ("both sides", [took(2, 3), never(2, 1), took(1, 0)], 0),
+        ("the true side twice", [never(2, 3), never(2, 1), took(1, 0)], 15),
+        ("one side", [took(2, 3), never(2, 1), never(1, 0)], 15),
+        ("no mark", [took(2, 3), took(2, 1), took(1, 0)], 0),
+    ];
+    for (name, paths, number) in cases {
+        let list = List { pairs: vec![[0, 0, 0, 16, 0, 3], [1, 1, 0, 0, 0, 0]], links: (0..16).map(|v| [v, v]).collect(), paths: paths.to_vec() };
+        put(&format!("impossible: {name}"), [image.clone(), image.clone(), list.image()], number);
+    }
+}
+
 // The limits in order.
 pub fn all() -> Vec<Limit> {
     let mut all = vec![];
@@ -236,5 +256,6 @@ pub fn all() -> Vec<Limit> {
         all.push(Limit { name: name.to_string(), images: [stop.clone(), stop.clone(), list.image()], number });
     });
     sums(&mut |name, images, number| all.push(Limit { name: name.to_string(), images, number }));
+    marks(&mut |name, images, number| all.push(Limit { name: name.to_string(), images, number }));
     all
 }

@@ -252,10 +252,11 @@ impl Grower<'_> {
 
     fn grow(&mut self, from: usize, a: Cursor, b: Cursor, passed: Vec<Passed>, depth: usize) {
         let late = depth >= self.depth || a.length > 20 || b.length > 16;
-        match self.rng.below(10) {
+        let known = if passed.is_empty() { 4 } else { 6 };
+        match self.rng.below(12) {
             0..=2 if !late => self.branch(from, a, b, passed, depth),
-            3 if !late => self.known_in_first(from, a, b, passed, depth),
-            4 if !late => self.known_in_second(from, a, b, passed, depth),
+            k @ 3..=6 if !late && k < known => self.known_in_first(from, a, b, passed, depth),
+            7 if !late => self.known_in_second(from, a, b, passed, depth),
             _ => self.edges(from, a, b, passed, depth, late),
         }
     }
