@@ -184,12 +184,13 @@ const SYMBOLS: [u32; 16] = [0, 1, 2, 3, 4, 5, 6, 7, 8, 9, 10, 11, 12, 13, 14, 15
 
 fn formed(rounds: u32) -> u32 {
     let symbols = SYMBOLS;
-    let env = env::symbols(&symbols);
+    let mut env = [0u32; 528];
+    env::symbols(&symbols, &mut env);
     let words = EXPRESSION;
     let mut total = 0;
     let mut i = 0;
     while i < rounds {
-        let r = expr::normal_sum(&words, &env.words);
+        let r = expr::normal_sum(&words, &env);
         let form = r.form;
         let s = r.sum;
         match form {

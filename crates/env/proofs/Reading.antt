@@ -24,6 +24,11 @@ unfolding termsFrom
 length-terms words k zero = refl
 length-terms words k (suc n) = ap suc (length-terms words (k + 2) n)
 
+-- A slot's sum has at most 16 terms.
+pub few-at : (words : List ℕ) (v : ℕ) → length (sumAt words v) ≤ 16
+unfolding sumAt
+few-at words v = omega (arith, length-terms words (33 * v + 1) (min (getD words (33 * v) 0) 16))
+
 -- The term at place i has its couple 2 i numbers behind the first one.
 pub term-at : (words : List ℕ) (k n i : ℕ) → i < n → getD (termsFrom words k n) i zeroTerm ≡ coupleAt words (k + 2 * i)
 unfolding termsFrom coupleAt

@@ -1,17 +1,16 @@
--- What storing a sum does to the sums: the one at its place is replaced, and the array keeps its length. Assumes nothing.
+-- What storing a sum does to the sums: the one in its slot is replaced, and the array keeps its length. Assumes nothing.
 use Prim.Native.Nat.{ℕ, zero, suc, _+_, _*_, _-_, _≤_, _<_, min}
 use mathlib.Core.Path.{_≡_, refl, sym, ap, _∙_}
 use mathlib.Core.Logic.{_⊎_, inl, inr, ⊎-elim}
 use mathlib.Core.List.{List, [], _∷_, _++_, append-assoc}
 use native.Mathlib.Omega.{arith}
-use lib.ListN.{length, getD, take, drop, set, replicate, length-append, length-drop, length-set, length-replicate, List·getD-append}
+use lib.ListN.{length, getD, take, drop, set, replicate, length-append, length-drop, length-set, List·getD-append}
 use lib.Seq.{length-take-le, getD-take, getD-drop, drop-drop, drop-at, getD-append-add, getD-set-same, getD-set-other, set-out, ext-getD}
-use borrow.Author.Tests.{lt-ltb}
 use Rattle.model.specs.Answer.{upTo}
 use Rattle.sum.specs.declared.Term.{Term}
-use Rattle.env.specs.Env.{termsFrom, sumAt, sumsOf, couples, flat, storedIn}
-use Rattle.env.proofs.Reading.{length-terms, length-sums, sums-at, sums-past}
-use Rattle.env.proofs.Storing.{stored-past}
+use Rattle.env.specs.Env.{termsFrom, sumAt, sumsOf, couples, flat, storedIn, withVariable}
+use Rattle.env.proofs.Reading.{length-sums, few-at, sums-at, sums-past}
+use Rattle.env.proofs.Storing.{with-within, with-past}
 
 -- A term is a couple of numbers.
 pub length-couples : (l : List Term) → length (couples l) ≡ 2 * length l
@@ -21,15 +20,10 @@ length-couples (t ∷ l) =
     let e : length (couples l) ≡ 2 * length l = length-couples l in
     omega arith
 
--- A sum takes 33 numbers.
-pub length-flat : (l : List Term) → length l ≤ 16 → length (flat l) ≡ 33
+-- A sum takes a number for its count and two for each term.
+pub length-flat : (l : List Term) → length (flat l) ≡ 1 + 2 * length l
 unfolding flat
-length-flat l h =
-    let a : length (couples l) ≡ 2 * length l = length-couples l in
-    let zeros : List ℕ = replicate (32 - 2 * length l) 0 in
-    let b : length zeros ≡ 32 - 2 * length l = length-replicate (32 - 2 * length l) 0 in
-    let c : length (couples l ++ zeros) ≡ length (couples l) + length zeros = length-append (couples l) zeros in
-    omega arith
+length-flat l = omega (arith, length-couples l)
 
 -- The terms whose couples stand from place k on are read back.
 pub read-back : (l : List Term) (r words : List ℕ) (k : ℕ) → drop k words ≡ couples l ++ r → termsFrom words k (length l) ≡ l
@@ -68,70 +62,74 @@ either a zero = inr (omega arith)
 either zero (suc b) = inl (omega arith)
 either (suc a) (suc b) = ⊎-elim (λ h. inl (omega arith)) (λ h. inr (omega arith)) (either a b)
 
-module _ (words : List ℕ) (v : ℕ) (l : List Term) (full : length words ≡ 528) (few : length l ≤ 16) where
-  -- The numbers where the variable has a place.
-  there : v < 16 → storedIn words v l ≡ take (33 * v) words ++ flat l ++ drop (33 * v + 33) words
-  unfolding storedIn
-  there h = rw (lt-ltb v 16 h)
-
+module _ (words : List ℕ) (v : ℕ) (l : List Term) (room : 33 * v + 33 ≤ length words) (few : length l ≤ 16) where
   -- What stands before the stored sum, and the sum.
-  before-length : v < 16 → length (take (33 * v) words) ≡ 33 * v
-  before-length h = length-take-le (33 * v) words (omega arith)
+  before-length : length (take (33 * v) words) ≡ 33 * v
+  before-length = length-take-le (33 * v) words (omega arith)
 
-  front-length : v < 16 → length (take (33 * v) words ++ flat l) ≡ 33 * v + 33
-  front-length h =
-      omega (arith, length-append (take (33 * v) words) (flat l), before-length h, length-flat l few)
+  front-length : length (take (33 * v) words ++ flat l) ≡ 33 * v + (1 + 2 * length l)
+  front-length =
+      omega (arith, length-append (take (33 * v) words) (flat l), before-length, length-flat l)
 
   -- The array keeps its length.
-  pub length-stored : length (storedIn words v l) ≡ 528
+  pub length-stored : length (storedIn words v l) ≡ length words
+  unfolding storedIn
   length-stored =
-      ⊎-elim
-      (λ h.
-      ap length (there h)
-      ∙ omega (arith, h, length-append (take (33 * v) words ++ flat l) (drop (33 * v + 33) words), front-length h, length-drop (33 * v + 33) words))
-      (λ h. ap length (sym (stored-past words v l h)) ∙ full)
-      (either v 16)
+      let end : ℕ = 33 * v + (1 + 2 * length l) in
+      omega (arith, length-append (take (33 * v) words ++ flat l) (drop end words), front-length, length-drop end words)
 
   -- The stored sum is read back.
-  pub stored-same : v < 16 → sumAt (storedIn words v l) v ≡ l
-  unfolding sumAt flat
-  stored-same h =
+  pub stored-same : sumAt (storedIn words v l) v ≡ l
+  unfolding storedIn sumAt flat
+  stored-same =
       let a : ℕ = 33 * v in
-      let w : List ℕ = take a words ++ flat l ++ drop (a + 33) words in
-      let zeros : List ℕ = replicate (32 - 2 * length l) 0 in
-      let d : drop a w ≡ flat l ++ drop (a + 33) words =
-      ap (drop a) (append-assoc (take a words) (flat l) (drop (a + 33) words))
-      ∙ drop-at (take a words) (flat l ++ drop (a + 33) words) a (before-length h) in
+      let rest : List ℕ = drop (a + (1 + 2 * length l)) words in
+      let w : List ℕ = storedIn words v l in
+      let d : drop a w ≡ flat l ++ rest =
+      ap (drop a) (append-assoc (take a words) (flat l) rest) ∙ drop-at (take a words) (flat l ++ rest) a before-length in
       let z : a ≡ a + 0 = omega arith in
       let n : getD w a 0 ≡ length l = ap (λ j. getD w j 0) z ∙ sym (getD-drop a w 0 0) ∙ ap (λ r. getD r 0 0) d in
       let m : min (getD w a 0) 16 ≡ length l = omega arith in
-      let r : drop (a + 1) w ≡ couples l ++ (zeros ++ drop (a + 33) words) =
-      sym (drop-drop 1 a w) ∙ ap (drop 1) d ∙ append-assoc (couples l) zeros (drop (a + 33) words) in
-      ap (λ s. sumAt s v) (there h) ∙ ap (termsFrom w (a + 1)) m ∙ read-back l (zeros ++ drop (a + 33) words) w (a + 1) r
+      let r : drop (a + 1) w ≡ couples l ++ rest = sym (drop-drop 1 a w) ∙ ap (drop 1) d in
+      ap (termsFrom w (a + 1)) m ∙ read-back l rest w (a + 1) r
+
+  -- Numbers before the slot, and behind it, are as they were.
+  stored-low : (j : ℕ) → j < 33 * v → getD (storedIn words v l) j 0 ≡ getD words j 0
+  unfolding storedIn
+  stored-low j k =
+      List·getD-append (take (33 * v) words ++ flat l) (drop (33 * v + (1 + 2 * length l)) words) 0 j (omega (arith, front-length))
+      ∙ List·getD-append (take (33 * v) words) (flat l) 0 j (omega (arith, before-length))
+      ∙ getD-take (33 * v) words j 0 k
+
+  stored-high : (j : ℕ) → 33 * v + 33 ≤ j → getD (storedIn words v l) j 0 ≡ getD words j 0
+  unfolding storedIn
+  stored-high j k =
+      let end : ℕ = 33 * v + (1 + 2 * length l) in
+      let m : ℕ = j - end in
+      let e : j ≡ length (take (33 * v) words ++ flat l) + m = omega (arith, front-length) in
+      let f : end + m ≡ j = omega arith in
+      ap (λ i. getD (storedIn words v l) i 0) e
+      ∙ getD-append-add (take (33 * v) words ++ flat l) (drop end words) m 0
+      ∙ getD-drop end words m 0
+      ∙ ap (λ i. getD words i 0) f
 
   -- Every other sum is as it was.
-  pub stored-other : v < 16 → (u : ℕ) → (u < v) ⊎ (v < u) → sumAt (storedIn words v l) u ≡ sumAt words u
-  stored-other h u d =
-      ap (λ s. sumAt s u) (there h) ∙ sum-agree w words u (λ j p q. ⊎-elim (λ c. low j (omega arith)) (λ c. high j (omega arith)) d)
-    where
-      w : List ℕ
-      w = take (33 * v) words ++ flat l ++ drop (33 * v + 33) words
+  pub stored-other : (u : ℕ) → (u < v) ⊎ (v < u) → sumAt (storedIn words v l) u ≡ sumAt words u
+  stored-other u d =
+      sum-agree
+      (storedIn words v l)
+      words
+      u
+      (λ j p q. ⊎-elim (λ c. stored-low j (omega arith)) (λ c. stored-high j (omega arith)) d)
 
-      low : (j : ℕ) → j < 33 * v → getD w j 0 ≡ getD words j 0
-      low j k =
-          List·getD-append (take (33 * v) words ++ flat l) (drop (33 * v + 33) words) 0 j (omega (arith, front-length h))
-          ∙ List·getD-append (take (33 * v) words) (flat l) 0 j (omega (arith, before-length h))
-          ∙ getD-take (33 * v) words j 0 k
-
-      high : (j : ℕ) → 33 * v + 33 ≤ j → getD w j 0 ≡ getD words j 0
-      high j k =
-          let m : ℕ = j - (33 * v + 33) in
-          let e : j ≡ length (take (33 * v) words ++ flat l) + m = omega (arith, front-length h) in
-          let f : 33 * v + 33 + m ≡ j = omega arith in
-          ap (λ i. getD w i 0) e
-          ∙ getD-append-add (take (33 * v) words ++ flat l) (drop (33 * v + 33) words) m 0
-          ∙ getD-drop (33 * v + 33) words m 0
-          ∙ ap (λ i. getD words i 0) f
+module _ (words : List ℕ) (v : ℕ) (l : List Term) (full : length words ≡ 528) (few : length l ≤ 16) where
+  -- The array of an environment keeps its length.
+  pub length-with : length (withVariable words v l) ≡ 528
+  length-with =
+      ⊎-elim
+      (λ h. ap length (with-within words v l h) ∙ length-stored words v l (omega arith) few ∙ full)
+      (λ h. ap length (with-past words v l h) ∙ full)
+      (either v 16)
 
   -- Each of the sums after storing.
   stored-at : v < 16 → (u : ℕ) → u < 16 → getD (sumsOf (storedIn words v l)) u [] ≡ getD (set (sumsOf words) v l) u []
@@ -140,26 +138,28 @@ module _ (words : List ℕ) (v : ℕ) (l : List Term) (full : length words ≡ 5
     where
       other : (u < v) ⊎ (v < u) → sumAt (storedIn words v l) u ≡ getD (set (sumsOf words) v l) u []
       other d =
-          stored-other h u d
+          stored-other words v l (omega arith) few u d
           ∙ sym (sums-at words u k)
           ∙ sym (getD-set-other (sumsOf words) v u l [] (λ e. ⊎-elim (λ c. omega arith) (λ c. omega arith) d))
 
       same : u ≡ v → sumAt (storedIn words v l) u ≡ getD (set (sumsOf words) v l) u []
       same e =
           ap (sumAt (storedIn words v l)) e
-          ∙ stored-same h
+          ∙ stored-same words v l (omega arith) few
           ∙ sym (getD-set-same (sumsOf words) v l [] (omega (arith, h, length-sums words)))
           ∙ ap (λ i. getD (set (sumsOf words) v l) i []) (sym e)
 
-  -- Storing a sum replaces it among the sums.
-  pub sums-stored : sumsOf (storedIn words v l) ≡ set (sumsOf words) v l
-  sums-stored =
+  -- Storing a variable's sum replaces it among the sums.
+  pub sums-with : sumsOf (withVariable words v l) ≡ set (sumsOf words) v l
+  sums-with =
       let a : length (sumsOf (storedIn words v l)) ≡ 16 = length-sums (storedIn words v l) in
       let b : length (sumsOf words) ≡ 16 = length-sums words in
       let c : length (set (sumsOf words) v l) ≡ length (sumsOf words) = length-set (sumsOf words) v l in
       ⊎-elim
-      (λ h. ext-getD [] (sumsOf (storedIn words v l)) (set (sumsOf words) v l) (omega arith) (λ u k. stored-at h u (omega arith)))
-      (λ h. ap sumsOf (sym (stored-past words v l h)) ∙ sym (set-out (sumsOf words) v l (omega arith)))
+      (λ h.
+      ap sumsOf (with-within words v l h)
+      ∙ ext-getD [] (sumsOf (storedIn words v l)) (set (sumsOf words) v l) (omega arith) (λ u k. stored-at h u (omega arith)))
+      (λ h. ap sumsOf (with-past words v l h) ∙ sym (set-out (sumsOf words) v l (omega arith)))
       (either v 16)
 
 -- An array of zeros has sixteen empty sums.
@@ -167,14 +167,10 @@ pub sums-empty : sumsOf (replicate 528 0) ≡ replicate 16 []
 unfolding sumsOf sumAt termsFrom upTo
 sums-empty = refl
 
--- Every sum that is read has at most 16 terms.
+-- Every variable's sum has at most 16 terms.
 pub sums-few : (words : List ℕ) (v : ℕ) → length (getD (sumsOf words) v []) ≤ 16
-unfolding sumAt
 sums-few words v =
     ⊎-elim
-    (λ h.
-    let n : ℕ = min (getD words (33 * v) 0) 16 in
-    let a : length (getD (sumsOf words) v []) ≡ n = ap length (sums-at words v h) ∙ length-terms words (33 * v + 1) n in
-    omega arith)
+    (λ h. let a = ap length (sums-at words v h) in omega (arith, few-at words v))
     (λ h. let a : length (getD (sumsOf words) v []) ≡ 0 = ap length (sums-past words v h) in omega arith)
     (either v 16)

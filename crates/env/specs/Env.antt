@@ -1,10 +1,11 @@
--- How one array of 528 numbers holds the sums of sixteen variables: 33 numbers each, the count of terms and then sixteen couples of
--- a coefficient and its packed symbols. A count over 16 is read as 16. Assumes nothing.
-use Prim.Native.Nat.{ℕ, zero, suc, _+_, _*_, _-_, min}
+-- How an array of numbers holds sums: 33 numbers to a slot, the count of terms and then sixteen couples of a coefficient and its packed
+-- symbols; what stands behind a sum's last couple is not read. A count over 16 is read as 16. An environment is sixteen slots, one for each
+-- variable. Assumes nothing.
+use Prim.Native.Nat.{ℕ, zero, suc, _+_, _*_, min}
 use mathlib.Core.Bool.{cond}
 use mathlib.Core.List.{List, [], _∷_, _++_, map}
 use lib.Dec.{ltb}
-use lib.ListN.{length, getD, take, drop, replicate}
+use lib.ListN.{length, getD, take, drop}
 use Rattle.model.specs.Answer.{upTo}
 use Rattle.key.specs.Key.{symbolOf}
 use Rattle.sum.specs.declared.Term.{Term}
@@ -17,7 +18,7 @@ termsFrom words k (suc n) =
     let later = termsFrom words (k + 2) n in
     record { coef = getD words k 0; mono = getD words (k + 1) 0 } ∷ later
 
--- The sum of variable v.
+-- The sum in slot v.
 unfoldable pub sumAt : List ℕ → ℕ → List Term
 sumAt words v = termsFrom words (33 * v + 1) (min (getD words (33 * v) 0) 16)
 
@@ -30,19 +31,19 @@ unfoldable pub couples : List Term → List ℕ
 couples [] = []
 couples (t ∷ l) = t .coef ∷ t .mono ∷ couples l
 
--- The 33 numbers of a list of at most 16 terms: its length, its couples, and zeros.
+-- The numbers that terms take: how many they are, and their couples.
 unfoldable pub flat : List Term → List ℕ
-flat l = length l ∷ couples l ++ replicate (32 - 2 * length l) 0
+flat l = length l ∷ couples l
 
--- The numbers with the sum of variable v replaced; a variable of 16 and more has no place, and nothing changes.
+-- The numbers with the sum in slot v replaced.
 unfoldable pub storedIn : List ℕ → ℕ → List Term → List ℕ
-storedIn words v l = cond (ltb v 16) (take (33 * v) words ++ flat l ++ drop (33 * v + 33) words) words
+storedIn words v l = take (33 * v) words ++ flat l ++ drop (33 * v + (1 + 2 * length l)) words
+
+-- The numbers of an environment with the sum of variable v replaced; a variable of 16 and more has no slot, and nothing changes.
+unfoldable pub withVariable : List ℕ → ℕ → List Term → List ℕ
+withVariable words v l = cond (ltb v 16) (storedIn words v l) words
 
 -- The numbers with n variables, from v on, each as its symbol of a list.
 unfoldable pub symbolsFrom : List ℕ → List ℕ → ℕ → ℕ → List ℕ
 symbolsFrom list words v zero = words
-symbolsFrom list words v (suc n) = symbolsFrom list (storedIn words v (symbolK (symbolOf (getD list v 0)))) (suc v) n
-
--- The numbers of an environment in which each variable is its symbol of a list.
-unfoldable pub symbolWords : List ℕ → List ℕ
-symbolWords list = symbolsFrom list (replicate 528 0) 0 16
+symbolsFrom list words v (suc n) = symbolsFrom list (withVariable words v (symbolK (symbolOf (getD list v 0)))) (suc v) n

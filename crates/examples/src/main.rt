@@ -51,8 +51,9 @@ const SYMBOLS: [u32; 16] = [0, 1, 2, 3, 4, 5, 6, 7, 8, 9, 10, 11, 12, 13, 14, 15
 // The normal sum of an expression.
 fn normal(name: &[u8], words: &[u32]) {
     let symbols = SYMBOLS;
-    let env = env::symbols(&symbols);
-    let r = expr::normal_sum(words, &env.words);
+    let mut env = [0u32; 528];
+    env::symbols(&symbols, &mut env);
+    let r = expr::normal_sum(words, &env);
     let form = r.form;
     let s = r.sum;
     say(name);

@@ -2,12 +2,15 @@
 // 1 then a variable; 2 sum, 3 difference, 4 product, each followed by two expressions; 5 negation, followed by one; at most 64
 // words. Each contract is the reading of `model`, malformed words included. Assumes nothing.
 ghost use mathlib.Core.Path.{_≡_};
-ghost use Rattle.model.specs.Expr.{readAt};
-ghost use Rattle.model.specs.Sum.{tooLarge};
+ghost use mathlib.Core.Bool.{true};
+ghost use Prim.Native.Nat.{_+_, _≤_, _<_};
+ghost use lib.ListN.{getD};
+ghost use Rattle.model.specs.Word.{base};
+ghost use Rattle.model.specs.Expr.{readAt, isParsed, treeOf, value as valueOf};
 ghost use Rattle.sum.specs.Packed.{termsOf, addedOf};
 ghost use Rattle.env.specs.Env.{sumsOf};
-ghost use Rattle.expr.specs.Answers.{reading, extentOf, valuedOf, joinedBy};
-ghost use Rattle.expr.specs.Normals.{malformedForm, formed, normalOf, fittingForm, sizedForm, combinedBy, joinedForms, negatedForm};
+ghost use Rattle.expr.specs.Answers.{reading, standing, usedOf, extentOf, valuedOf, joinedBy};
+ghost use Rattle.expr.specs.Normals.{sumOfK, normalOf, combinedBy};
 use sum::Added;
 use sum::Size;
 use sum::Sum;
@@ -83,71 +86,79 @@ fn read(words: &[u32]) -> Extent
 pub fn value(words: &[u32], variables: &[u32; 16]) -> Valued
     ensures { λ r. ⌜ r ≡ valuedOf (now (variables .entry)) (readAt (now (words .entry)) 0) ⌝ }
 {
-    if words.len() <= WORDS {
-        return evaluate(words, variables);
+    match extent(words) {
+        Extent::Malformed => Valued::Malformed,
+        Extent::Uses(used) => Valued::Value {
+            word: worth(words, 0, variables),
+            used: used,
+        },
     }
-    evaluate(&words[..WORDS], variables)
 }
 
-// The value of the expression at the front of the words, however many they are, read as `read` does.
-fn evaluate(words: &[u32], variables: &[u32; 16]) -> Valued
-    ensures { λ r. ⌜ r ≡ valuedOf (now (variables .entry)) (reading (now (words .entry))) ⌝ }
+// The value of the expression at a start of a code area, at the variables, where there is one.
+pub fn worth(code: &[u32], start: u32, variables: &[u32; 16]) -> u32
+    requires { ⌜ isParsed (readAt (now code) start) ≡ true ⌝ }
+    ensures { λ r. ⌜ r ≡ valueOf base (now (variables .entry)) (treeOf (readAt (now (code .entry)) start)) ⌝ }
 {
-    if words.len() == 0 {
-        return Valued::Malformed;
+    let begin = start as usize;
+    if code[begin] < 2 {
+        return leaf(code, begin, variables);
     }
-    let code = words[0];
-    match code {
-        0 => {
-            if words.len() < 2 {
-                return Valued::Malformed;
-            }
-            let constant = words[1];
-            Valued::Value {
-                word: constant,
-                used: 2,
-            }
-        }
-        1 => {
-            if words.len() < 2 {
-                return Valued::Malformed;
-            }
-            let variable = words[1];
-            if variable <= LAST_VARIABLE {
-                let at = variable as usize;
-                let held = variables[at];
-                return Valued::Value {
-                    word: held,
-                    used: 2,
-                };
-            }
-            Valued::Malformed
-        }
-        2 | 3 | 4 => match evaluate(&words[1..], variables) {
-            Valued::Malformed => Valued::Malformed,
-            Valued::Value {
-                word: left,
-                used: before,
-            } => {
-                let at = 1 + before;
-                match evaluate(&words[at..], variables) {
-                    Valued::Malformed => Valued::Malformed,
-                    Valued::Value { word: right, used } => Valued::Value {
-                        word: joined(code, left, right),
-                        used: at + used,
-                    },
-                }
-            }
-        },
-        5 => match evaluate(&words[1..], variables) {
-            Valued::Malformed => Valued::Malformed,
-            Valued::Value { word, used } => Valued::Value {
-                word: word::negated(word),
-                used: 1 + used,
-            },
-        },
-        _ => Valued::Malformed,
+    let mut at = begin;
+    operation(code, &mut at, variables)
+}
+
+// The value of the constant or the variable at a place.
+fn leaf(code: &[u32], at: usize, variables: &[u32; 16]) -> u32
+    requires { ⌜ (isParsed (standing (now code) at) ≡ true) × (getD (now code) at 0 < 2) ⌝ }
+    ensures { λ r. ⌜ r ≡ valueOf base (now (variables .entry)) (treeOf (standing (now (code .entry)) at)) ⌝ }
+{
+    let word = code[at + 1];
+    if code[at] == 0 {
+        return word;
     }
+    let variable = word as usize;
+    variables[variable]
+}
+
+// The value of the operation at a place, which moves behind it. An operand that is a constant or a variable is looked up, and any other is
+// an operation further on.
+fn operation(code: &[u32], at: &mut usize, variables: &[u32; 16]) -> u32
+    requires { ⌜ (isParsed (standing (now code) (now at)) ≡ true) × (2 ≤ getD (now code) (now at) 0) ⌝ }
+    ensures { λ r. ⌜ (r ≡ valueOf base (now (variables .entry)) (treeOf (standing (now (code .entry)) (now (at .entry))))) × (now (at .exit) ≡ now (at .entry) + usedOf (standing (now (code .entry)) (now (at .entry)))) ⌝ }
+{
+    let begin = *at;
+    let kind = code[begin];
+    let first = begin + 1;
+    if code[first] < 2 {
+        let left = leaf(code, first, variables);
+        let second = first + 2;
+        if kind == 5 {
+            *at = second;
+            return word::negated(left);
+        }
+        if code[second] < 2 {
+            *at = second + 2;
+            let right = leaf(code, second, variables);
+            return joined(kind, left, right);
+        }
+        *at = second;
+        let right = operation(code, at, variables);
+        return joined(kind, left, right);
+    }
+    *at = first;
+    let left = operation(code, at, variables);
+    if kind == 5 {
+        return word::negated(left);
+    }
+    let second = *at;
+    if code[second] < 2 {
+        *at = second + 2;
+        let right = leaf(code, second, variables);
+        return joined(kind, left, right);
+    }
+    let right = operation(code, at, variables);
+    joined(kind, left, right)
 }
 
 // Two words joined by the operation of a code word: 2 sum, 3 difference, 4 product.
@@ -165,102 +176,89 @@ fn joined(code: u32, left: u32, right: u32) -> u32
 pub fn normal_sum(words: &[u32], env: &[u32; 528]) -> Normal
     ensures { λ r. ⌜ r ≡ normalOf (sumsOf (now (env .entry))) (readAt (now (words .entry)) 0) ⌝ }
 {
-    if words.len() <= WORDS {
-        return form(words, env);
-    }
-    form(&words[..WORDS], env)
-}
-
-// The normal sum of the expression at the front of the words, however many they are. A sum that is too large is passed up, and the
-// words behind it are still read, so that malformed ones are found.
-fn form(words: &[u32], env: &[u32; 528]) -> Normal
-    ensures { λ r. ⌜ r ≡ normalOf (sumsOf (now (env .entry))) (reading (now (words .entry))) ⌝ }
-{
-    if words.len() == 0 {
-        return malformed_form();
-    }
-    let code = words[0];
-    match code {
-        0 => {
-            if words.len() < 2 {
-                return malformed_form();
+    match extent(words) {
+        Extent::Malformed => Normal {
+            sum: Sum::empty(),
+            used: 0,
+            form: Form::Malformed,
+        },
+        Extent::Uses(used) => {
+            let added = sum_at(words, 0, env);
+            let sum = added.sum;
+            let size = added.size;
+            match size {
+                Size::TooLarge => Normal {
+                    sum: sum,
+                    used: used,
+                    form: Form::TooLarge,
+                },
+                Size::Fits => Normal {
+                    sum: sum,
+                    used: used,
+                    form: Form::Fits,
+                },
             }
-            let constant = words[1];
-            fitting(2, Sum::constant(constant))
         }
-        1 => {
-            if words.len() < 2 {
-                return malformed_form();
+    }
+}
+
+// The normal sum of the expression at a start of a code area, where there is one.
+pub fn sum_at(code: &[u32], start: u32, env: &[u32; 528]) -> Added
+    requires { ⌜ isParsed (readAt (now code) start) ≡ true ⌝ }
+    ensures { λ r. ⌜ r ≡ addedOf (sumOfK base (sumsOf (now (env .entry))) (treeOf (readAt (now (code .entry)) start))) ⌝ }
+{
+    let mut at = start as usize;
+    form(code, &mut at, env)
+}
+
+// The normal sum of the expression at a place, which moves behind it. An operand that is too large is the answer of the whole.
+fn form(code: &[u32], at: &mut usize, env: &[u32; 528]) -> Added
+    requires { ⌜ isParsed (standing (now code) (now at)) ≡ true ⌝ }
+    ensures { λ r. ⌜ (r ≡ addedOf (sumOfK base (sumsOf (now (env .entry))) (treeOf (standing (now (code .entry)) (now (at .entry)))))) × (now (at .exit) ≡ now (at .entry) + usedOf (standing (now (code .entry)) (now (at .entry)))) ⌝ }
+{
+    let begin = *at;
+    let kind = code[begin];
+    if kind == 0 {
+        *at = begin + 2;
+        return Added {
+            sum: Sum::constant(code[begin + 1]),
+            size: Size::Fits,
+        };
+    }
+    if kind == 1 {
+        *at = begin + 2;
+        let variable = code[begin + 1] as usize;
+        return Added {
+            sum: env::get(env, variable),
+            size: Size::Fits,
+        };
+    }
+    *at = begin + 1;
+    let left = form(code, at, env);
+    let left_size = left.size;
+    if kind == 5 {
+        match left_size {
+            Size::TooLarge => return left,
+            Size::Fits => {
+                let operand = left.sum;
+                return Added {
+                    sum: operand.negate(),
+                    size: Size::Fits,
+                };
             }
-            let variable = words[1];
-            if variable <= LAST_VARIABLE {
-                let at = variable as usize;
-                return fitting(2, env::get(env, at));
-            }
-            malformed_form()
         }
-        2 | 3 | 4 => {
-            let left = form(&words[1..], env);
-            let taken = left.used;
-            if taken == 0 {
-                return malformed_form();
-            }
-            let at = 1 + taken;
-            let right = form(&words[at..], env);
-            let used = at + right.used;
-            joined_forms(code, used, left, right)
-        }
-        5 => {
-            let operand = form(&words[1..], env);
-            let used = 1 + operand.used;
-            negated_form(used, operand)
-        }
-        _ => malformed_form(),
     }
-}
-
-// The answer for malformed words.
-fn malformed_form() -> Normal
-    ensures { λ r. ⌜ r ≡ malformedForm ⌝ }
-{
-    Normal {
-        form: Form::Malformed,
-        used: 0,
-        sum: Sum::empty(),
+    let right = form(code, at, env);
+    match left_size {
+        Size::TooLarge => return left,
+        Size::Fits => {}
     }
-}
-
-// The answer for words whose sum is too large.
-fn too_large(used: usize) -> Normal
-    ensures { λ r. ⌜ r ≡ formed used tooLarge ⌝ }
-{
-    Normal {
-        form: Form::TooLarge,
-        used: used,
-        sum: Sum::empty(),
+    let right_size = right.size;
+    match right_size {
+        Size::TooLarge => return right,
+        Size::Fits => {}
     }
-}
-
-// The answer for words whose sum fits.
-fn fitting(used: usize, sum: Sum) -> Normal
-    ensures { λ r. ⌜ r ≡ fittingForm used sum ⌝ }
-{
-    Normal {
-        form: Form::Fits,
-        used: used,
-        sum: sum,
-    }
-}
-
-// The answer for words whose sum an operation gave.
-fn sized(used: usize, added: Added) -> Normal
-    ensures { λ r. ⌜ r ≡ sizedForm used added ⌝ }
-{
-    let size = added.size;
-    match size {
-        Size::TooLarge => too_large(used),
-        Size::Fits => fitting(used, added.sum),
-    }
+    combined(kind, left.sum, right.sum)
 }
 
 // Two sums joined by the operation of a code word: 2 sum, 3 difference, 4 product.
@@ -271,39 +269,5 @@ fn combined(code: u32, left: Sum, right: Sum) -> Added
         2 => left.add(right),
         3 => left.subtract(right),
         _ => left.multiply(right),
-    }
-}
-
-// The answer for two operands, the first of which was read: malformed where the second is, else too large where either is.
-fn joined_forms(code: u32, used: usize, left: Normal, right: Normal) -> Normal
-    ensures { λ r. ⌜ r ≡ joinedForms code used left right ⌝ }
-{
-    let second = right.form;
-    match second {
-        Form::Malformed => malformed_form(),
-        Form::TooLarge => too_large(used),
-        Form::Fits => {
-            let first = left.form;
-            match first {
-                Form::Malformed => too_large(used),
-                Form::TooLarge => too_large(used),
-                Form::Fits => sized(used, combined(code, left.sum, right.sum)),
-            }
-        }
-    }
-}
-
-// The answer for a negated operand.
-fn negated_form(used: usize, operand: Normal) -> Normal
-    ensures { λ r. ⌜ r ≡ negatedForm used operand ⌝ }
-{
-    let form = operand.form;
-    match form {
-        Form::Malformed => malformed_form(),
-        Form::TooLarge => too_large(used),
-        Form::Fits => {
-            let sum = operand.sum;
-            fitting(used, sum.negate())
-        }
     }
 }

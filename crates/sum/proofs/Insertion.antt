@@ -2,12 +2,12 @@
 use Prim.Native.Nat.{ℕ, suc, _+_, _≤_, _<_}
 use mathlib.Core.Path.{_≡_, refl, sym, ap, _∙_}
 use mathlib.Core.Bool.{Bool, true, false, cond}
-use mathlib.Core.List.{List, [], _∷_, _++_}
+use mathlib.Core.List.{List, [], _∷_, _++_, map}
 use native.Mathlib.Numerals.{add-one}
 use native.Mathlib.Omega.{arith}
 use lib.Dec.{ltb}
 use lib.ListN.{length, getD, take, drop, set, take-append-drop}
-use lib.Seq.{slice, slice-cons, slice-empty, length-take-le, getD-take, take-set-lt, set-split}
+use lib.Seq.{slice, slice-cons, slice-empty, length-take-le, set-split}
 use borrow.Author.Tests.{ltb-true, ltb-false, lt-ltb, le-ltb, eq-eqb, ne-eqb}
 use Rattle.model.specs.Word.{plus}
 use Rattle.sum.specs.declared.Term.{Term}
@@ -23,20 +23,20 @@ pub keep-some : (t : Term) (s : List Term) → (t .coef ≡ 0 → ⊥) → keepK
 unfolding keepK
 keep-some t s e = rw (ne-eqb _ _ e)
 
--- The place of a term: behind a first term that precedes it, and else in front.
-pub place-behind : (m : ℕ) (u : Term) (s : List Term) → u .mono < m → placeOf m (u ∷ s) ≡ suc (placeOf m s)
+-- The place of packed symbols: behind the first ones where those precede them, and else in front.
+pub place-behind : (m u : ℕ) (s : List ℕ) → u < m → placeOf m (u ∷ s) ≡ suc (placeOf m s)
 unfolding placeOf
 place-behind m u s h = rw (lt-ltb _ _ h)
 
-pub place-here : (m : ℕ) (u : Term) (s : List Term) → m ≤ u .mono → placeOf m (u ∷ s) ≡ 0
+pub place-here : (m u : ℕ) (s : List ℕ) → m ≤ u → placeOf m (u ∷ s) ≡ 0
 unfolding placeOf
 place-here m u s h = rw (le-ltb _ _ h)
 
 -- The place is in the list or at its end.
-pub place-within : (m : ℕ) (s : List Term) → placeOf m s ≤ length s
+pub place-within : (m : ℕ) (s : List ℕ) → placeOf m s ≤ length s
 unfolding placeOf
 place-within m [] = omega arith
-place-within m (u ∷ s) = split (ltb (u .mono) m) (place-within m s)
+place-within m (u ∷ s) = split (ltb u m) (place-within m s)
   where
     split : (b : Bool) → placeOf m s ≤ length s → cond b (suc (placeOf m s)) 0 ≤ suc (length s)
     split true h = omega arith
@@ -55,6 +55,10 @@ insert-behind : (w : ℕ) (t u : Term) (s : List Term) → u .mono < t .mono →
 unfolding insertK
 insert-behind w t u s h = rw (ne-eqb (t .mono) (u .mono) (λ e. omega arith), le-ltb (t .mono) (u .mono) (omega arith))
 
+-- The packed symbols of each term.
+abbrev pub monos : List Term → List ℕ
+monos s = map (λ u. u .mono) s
+
 -- What an insertion is, given the place p.
 abbrev pub Joined : ℕ → Term → List Term → ℕ → Type 0
 Joined w t s p = insertK w t s ≡ take p s ++ keepK (joinedK w t (getD s p zeroTerm)) (drop (suc p) s)
@@ -64,34 +68,34 @@ Kept w t s p = insertK w t s ≡ take p s ++ keepK t (drop p s)
 
 -- A term that has the symbols of the one at its place is joined with it.
 pub insert-join : (w : ℕ) (t : Term) (s : List Term)
-    → placeOf (t .mono) s < length s
-    → getD s (placeOf (t .mono) s) zeroTerm .mono ≡ t .mono
-    → Joined w t s (placeOf (t .mono) s)
+    → placeOf (t .mono) (monos s) < length s
+    → getD s (placeOf (t .mono) (monos s)) zeroTerm .mono ≡ t .mono
+    → Joined w t s (placeOf (t .mono) (monos s))
 unfolding insertK placeOf
 insert-join w t [] h e = absurd (omega arith)
 insert-join w t (u ∷ s) h e = split (insert-join w t s) (ltb (u .mono) (t .mono)) refl h e
   where
-    split : (placeOf (t .mono) s < length s → getD s (placeOf (t .mono) s) zeroTerm .mono ≡ t .mono → Joined w t s (placeOf (t .mono) s))
+    split : (placeOf (t .mono) (monos s) < length s → getD s (placeOf (t .mono) (monos s)) zeroTerm .mono ≡ t .mono → Joined w t s (placeOf (t .mono) (monos s)))
         → (b : Bool) → ltb (u .mono) (t .mono) ≡ b
-        → cond b (suc (placeOf (t .mono) s)) 0 < suc (length s)
-        → getD (u ∷ s) (cond b (suc (placeOf (t .mono) s)) 0) zeroTerm .mono ≡ t .mono
-        → Joined w t (u ∷ s) (cond b (suc (placeOf (t .mono) s)) 0)
+        → cond b (suc (placeOf (t .mono) (monos s))) 0 < suc (length s)
+        → getD (u ∷ s) (cond b (suc (placeOf (t .mono) (monos s))) 0) zeroTerm .mono ≡ t .mono
+        → Joined w t (u ∷ s) (cond b (suc (placeOf (t .mono) (monos s))) 0)
     split ih true b h e = insert-behind w t u s (ltb-true _ _ b) ∙ ap (λ r. u ∷ r) (ih (omega arith) e)
     split ih false b h e = insert-joins w t u s (sym e)
 
 -- Any other term is kept at its place.
 pub insert-keep : (w : ℕ) (t : Term) (s : List Term)
-    → (placeOf (t .mono) s < length s → getD s (placeOf (t .mono) s) zeroTerm .mono ≡ t .mono → ⊥)
-    → Kept w t s (placeOf (t .mono) s)
+    → (placeOf (t .mono) (monos s) < length s → getD s (placeOf (t .mono) (monos s)) zeroTerm .mono ≡ t .mono → ⊥)
+    → Kept w t s (placeOf (t .mono) (monos s))
 unfolding insertK placeOf
 insert-keep w t [] h = refl
 insert-keep w t (u ∷ s) h = split (insert-keep w t s) (ltb (u .mono) (t .mono)) refl h
   where
-    split : ((placeOf (t .mono) s < length s → getD s (placeOf (t .mono) s) zeroTerm .mono ≡ t .mono → ⊥) → Kept w t s (placeOf (t .mono) s))
+    split : ((placeOf (t .mono) (monos s) < length s → getD s (placeOf (t .mono) (monos s)) zeroTerm .mono ≡ t .mono → ⊥) → Kept w t s (placeOf (t .mono) (monos s)))
         → (b : Bool) → ltb (u .mono) (t .mono) ≡ b
-        → (cond b (suc (placeOf (t .mono) s)) 0 < suc (length s)
-        → getD (u ∷ s) (cond b (suc (placeOf (t .mono) s)) 0) zeroTerm .mono ≡ t .mono → ⊥)
-        → Kept w t (u ∷ s) (cond b (suc (placeOf (t .mono) s)) 0)
+        → (cond b (suc (placeOf (t .mono) (monos s))) 0 < suc (length s)
+        → getD (u ∷ s) (cond b (suc (placeOf (t .mono) (monos s))) 0) zeroTerm .mono ≡ t .mono → ⊥)
+        → Kept w t (u ∷ s) (cond b (suc (placeOf (t .mono) (monos s))) 0)
     split ih true b h = insert-behind w t u s (ltb-true _ _ b) ∙ ap (λ r. u ∷ r) (ih (λ k. h (omega arith)))
     split ih false b h =
         let n : u .mono ≡ t .mono → ⊥ = h (omega arith) in
@@ -99,26 +103,26 @@ insert-keep w t (u ∷ s) h = split (insert-keep w t s) (ltb (u .mono) (t .mono)
         insert-front w t u s (omega (arith, n))
 
 -- The search: the place is i and the place in what is left.
-pub record Searched (m n : ℕ) (l : List Term) (i : ℕ) : Type 0 where
+pub record Searched (m n : ℕ) (l : List ℕ) (i : ℕ) : Type 0 where
   pub within : i ≤ n
   pub room : n ≤ length l
   pub at : i + placeOf m (slice i n l) ≡ placeOf m (take n l)
 
-module _ (m n : ℕ) (l : List Term) where
+module _ (m n : ℕ) (l : List ℕ) where
   pub search-start : n ≤ length l → Searched m n l 0
   search-start h = record { within = omega arith; room = h; at = omega arith }
 
-  pub search-step : (i : ℕ) → Searched m n l i → i < n → getD l i zeroTerm .mono < m → Searched m n l (i + 1)
+  pub search-step : (i : ℕ) → Searched m n l i → i < n → getD l i 0 < m → Searched m n l (i + 1)
   search-step i h k e =
       let p : placeOf m (slice i n l) ≡ suc (placeOf m (slice (suc i) n l)) =
-      ap (placeOf m) (slice-cons i n l zeroTerm k (h .room)) ∙ place-behind m _ _ e in
+      ap (placeOf m) (slice-cons i n l 0 k (h .room)) ∙ place-behind m _ _ e in
       let q : i + placeOf m (slice i n l) ≡ placeOf m (take n l) = h .at in
       record { within = omega arith; room = h .room; at = rw (add-one i) (omega arith) }
 
-  pub search-found : (i : ℕ) → Searched m n l i → i < n → m ≤ getD l i zeroTerm .mono → i ≡ placeOf m (take n l)
+  pub search-found : (i : ℕ) → Searched m n l i → i < n → m ≤ getD l i 0 → i ≡ placeOf m (take n l)
   search-found i h k e =
       let p : placeOf m (slice i n l) ≡ 0 =
-      ap (placeOf m) (slice-cons i n l zeroTerm k (h .room)) ∙ place-here m _ _ e in
+      ap (placeOf m) (slice-cons i n l 0 k (h .room)) ∙ place-here m _ _ e in
       let q : i + placeOf m (slice i n l) ≡ placeOf m (take n l) = h .at in
       omega arith
 
@@ -133,7 +137,7 @@ module _ (m n : ℕ) (l : List Term) where
 -- What the code does at the place that it found.
 
 -- The place that was found is at most the count.
-pub found-within : (m n : ℕ) (l : List Term) (i : ℕ) → n ≤ length l → i ≡ placeOf m (take n l) → i ≤ n
+pub found-within : (m n : ℕ) (l : List ℕ) (i : ℕ) → n ≤ length l → i ≡ placeOf m (take n l) → i ≤ n
 found-within m n l i h e =
     let p : length (take n l) ≡ n = length-take-le n l h in
     let q : placeOf m (take n l) ≤ length (take n l) = place-within m (take n l) in
@@ -148,67 +152,48 @@ pub kept-some : (t : Term) (s r : List Term) (i : ℕ) → (t .coef ≡ 0 → �
 kept-some t s r i e h = h ∙ ap (λ r. take i s ++ r) (sym (keep-some t (drop i s) e))
 
 -- Two terms whose coefficients add up to zero are taken out.
-pub joined-zero : (w n : ℕ) (t : Term) (l r : List Term) (i c : ℕ) → i < n
-    → c ≡ plus w (t .coef) (getD l i zeroTerm .coef)
+pub joined-zero : (w : ℕ) (t : Term) (s r : List Term) (i c : ℕ)
+    → c ≡ plus w (t .coef) (getD s i zeroTerm .coef)
     → c ≡ 0
-    → r ≡ take i (take n l) ++ drop (suc i) (take n l)
-    → r ≡ take i (take n l) ++ keepK (joinedK w t (getD (take n l) i zeroTerm)) (drop (suc i) (take n l))
+    → r ≡ take i s ++ drop (suc i) s
+    → r ≡ take i s ++ keepK (joinedK w t (getD s i zeroTerm)) (drop (suc i) s)
 unfolding joinedK
-joined-zero w n t l r i c h e z k =
-    let g : getD (take n l) i zeroTerm ≡ getD l i zeroTerm = getD-take n l i zeroTerm h in
-    let d : joinedK w t (getD (take n l) i zeroTerm) .coef ≡ 0 = ap (λ u. plus w (t .coef) (u .coef)) g ∙ sym e ∙ z in
-    k ∙ ap (λ r. take i (take n l) ++ r) (sym (keep-zero _ (drop (suc i) (take n l)) d))
+joined-zero w t s r i c e z k =
+    k ∙ ap (λ r. take i s ++ r) (sym (keep-zero (joinedK w t (getD s i zeroTerm)) (drop (suc i) s) (sym e ∙ z)))
 
 -- Two other terms are joined in place.
-pub joined-some : (w n : ℕ) (t : Term) (l : List Term) (i c : ℕ) → i < n → n ≤ length l
-    → c ≡ plus w (t .coef) (getD l i zeroTerm .coef)
+pub joined-some : (w : ℕ) (t : Term) (s : List Term) (i c : ℕ) → i < length s
+    → c ≡ plus w (t .coef) (getD s i zeroTerm .coef)
     → (c ≡ 0 → ⊥)
-    → take n (set l i (record { coef = c; mono = getD l i zeroTerm .mono }))
-    ≡ take i (take n l) ++ keepK (joinedK w t (getD (take n l) i zeroTerm)) (drop (suc i) (take n l))
+    → set s i (record { coef = c; mono = getD s i zeroTerm .mono })
+    ≡ take i s ++ keepK (joinedK w t (getD s i zeroTerm)) (drop (suc i) s)
 unfolding joinedK
-joined-some w n t l i c h k e z =
-    let v : Term = record { coef = c; mono = getD l i zeroTerm .mono } in
-    let g : getD (take n l) i zeroTerm ≡ getD l i zeroTerm = getD-take n l i zeroTerm h in
-    let d : v ≡ joinedK w t (getD (take n l) i zeroTerm) =
-    (λ x. record { coef = e x; mono = getD l i zeroTerm .mono }) ∙ ap (joinedK w t) (sym g) in
-    let p : length (take n l) ≡ n = length-take-le n l k in
-    take-set-lt n l i v h
-    ∙ set-split (take n l) i v (omega arith)
-    ∙ ap (λ r. take i (take n l) ++ r) (sym (keep-some v _ z))
-    ∙ ap (λ u. take i (take n l) ++ keepK u (drop (suc i) (take n l))) d
+joined-some w t s i c h e z =
+    let v : Term = record { coef = c; mono = getD s i zeroTerm .mono } in
+    set-split s i v h
+    ∙ ap (λ r. take i s ++ r) (sym (keep-some v (drop (suc i) s) z))
+    ∙ (λ x. take i s ++ keepK (record { coef = e x; mono = getD s i zeroTerm .mono }) (drop (suc i) s))
 
 -- What was kept at the place that was found is the insertion.
-pub inserted-kept : (w : ℕ) (t : Term) (s r : List Term) (i : ℕ) → i ≡ placeOf (t .mono) s
+pub inserted-kept : (w : ℕ) (t : Term) (s r : List Term) (i : ℕ) → i ≡ placeOf (t .mono) (monos s)
     → (i < length s → getD s i zeroTerm .mono ≡ t .mono → ⊥)
     → r ≡ take i s ++ keepK t (drop i s)
     → r ≡ insertK w t s
 inserted-kept w t s r i e h k =
-    let h′ : placeOf (t .mono) s < length s → getD s (placeOf (t .mono) s) zeroTerm .mono ≡ t .mono → ⊥ = rw e at h in
+    let h′ : placeOf (t .mono) (monos s) < length s → getD s (placeOf (t .mono) (monos s)) zeroTerm .mono ≡ t .mono → ⊥ = rw e at h in
     k ∙ ap (λ i. take i s ++ keepK t (drop i s)) e ∙ sym (insert-keep w t s h′)
 
--- The same, where the term at the place has other symbols.
-pub inserted-between : (w n : ℕ) (t : Term) (l r : List Term) (i : ℕ) → i ≡ placeOf (t .mono) (take n l)
-    → i < n
-    → (getD l i zeroTerm .mono ≡ t .mono → ⊥)
-    → r ≡ take i (take n l) ++ keepK t (drop i (take n l))
-    → r ≡ insertK w t (take n l)
-inserted-between w n t l r i e h d k =
-    inserted-kept w t (take n l) r i e (λ _ m. d (sym (ap (λ u. u .mono) (getD-take n l i zeroTerm h)) ∙ m)) k
-
 -- What was joined at the place that was found is the insertion.
-pub inserted-joined : (w n : ℕ) (t : Term) (l r : List Term) (i : ℕ) → i ≡ placeOf (t .mono) (take n l)
-    → i < n → n ≤ length l
-    → getD l i zeroTerm .mono ≡ t .mono
-    → r ≡ take i (take n l) ++ keepK (joinedK w t (getD (take n l) i zeroTerm)) (drop (suc i) (take n l))
-    → r ≡ insertK w t (take n l)
-inserted-joined w n t l r i e h k m g =
-    let s : List Term = take n l in
-    let p : length s ≡ n = length-take-le n l k in
-    let q : getD s i zeroTerm .mono ≡ t .mono = ap (λ u. u .mono) (getD-take n l i zeroTerm h) ∙ m in
-    let q′ : getD s (placeOf (t .mono) s) zeroTerm .mono ≡ t .mono = rw e at q in
-    g
+pub inserted-joined : (w : ℕ) (t : Term) (s r : List Term) (i : ℕ) → i ≡ placeOf (t .mono) (monos s)
+    → i < length s
+    → getD s i zeroTerm .mono ≡ t .mono
+    → r ≡ take i s ++ keepK (joinedK w t (getD s i zeroTerm)) (drop (suc i) s)
+    → r ≡ insertK w t s
+inserted-joined w t s r i e h m k =
+    let m′ : getD s (placeOf (t .mono) (monos s)) zeroTerm .mono ≡ t .mono = rw e at m in
+    k
     ∙ ap (λ i. take i s ++ keepK (joinedK w t (getD s i zeroTerm)) (drop (suc i) s)) e
-    ∙ sym (insert-join w t s (omega arith) q′)
+    ∙ sym (insert-join w t s (omega arith) m′)
 
 -- The collecting loop: what is left to collect gives the whole.
 pub record Collected (w n : ℕ) (from s g : List Term) (i : ℕ) : Type 0 where

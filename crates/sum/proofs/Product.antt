@@ -37,14 +37,14 @@ gather-append w tooLarge b g = refl
 gather-append w (fits xs) tooLarge g = refl
 gather-append w (fits xs) (fits ys) g = ap fits (collect-append w xs ys g)
 
--- What a growing collector says, by its size.
-pub grown-fits : (r : Grown) (o : Outcome (List Term)) → r .size ≡ Fits → grownOf r ≡ o → o ≡ fits (gathered (r .gather))
+-- What is collected, by the size.
+pub grown-fits : (cs ms : List ℕ) (r : Grown) (o : Outcome (List Term)) → r .size ≡ Fits → grownOf cs ms r ≡ o → o ≡ fits (gathered cs ms (r .n))
 unfolding grownOf sizedOf
-grown-fits r o e h = sym h ∙ ap (λ s. sizedOf s (gathered (r .gather))) e
+grown-fits cs ms r o e h = sym h ∙ ap (λ s. sizedOf s (gathered cs ms (r .n))) e
 
-pub grown-large : (r : Grown) (o : Outcome (List Term)) → r .size ≡ TooLarge → grownOf r ≡ o → o ≡ tooLarge
+pub grown-large : (cs ms : List ℕ) (r : Grown) (o : Outcome (List Term)) → r .size ≡ TooLarge → grownOf cs ms r ≡ o → o ≡ tooLarge
 unfolding grownOf sizedOf
-grown-large r o e h = sym h ∙ ap (λ s. sizedOf s (gathered (r .gather))) e
+grown-large cs ms r o e h = sym h ∙ ap (λ s. sizedOf s (gathered cs ms (r .n))) e
 
 -- The product of two terms, by its coefficient c: nothing, too large, or one term.
 pub product-none : (w : ℕ) (t u : Term) (g : List Term) (c : ℕ) → c ≡ times w (t .coef) (u .coef) → c ≡ 0

@@ -1,7 +1,7 @@
 -- The operations of a normal sum (01, "The normal sum"; `model`, Sum) on packed terms, where one number stands for the list of
 -- symbols, and how a struct of the code holds a list of terms. `mono` is the packed list: its order as a number is the paper's
 -- order of symbol lists, and 0 is the empty list. Every operation is over the width w; the base is 32. Assumes nothing.
-use Prim.Native.Nat.{ℕ, suc, _-_, _*_, min}
+use Prim.Native.Nat.{ℕ, suc, _-_, _*_, _≤_, min}
 use mathlib.Core.Bool.{Bool, cond, _&&_}
 use mathlib.Core.List.{List, [], _∷_, _++_, map}
 use lib.Dec.{leb, ltb, eqb}
@@ -14,7 +14,6 @@ use Rattle.key.specs.declared.Merged.{Merged}
 use Rattle.key.specs.declared.Merged.the-variants.{TooMany, Packed}
 use Rattle.sum.specs.declared.Term.{Term}
 use Rattle.sum.specs.declared.Sum.{Sum}
-use Rattle.sum.specs.declared.Gather.{Gather}
 use Rattle.sum.specs.declared.Grown.{Grown}
 use Rattle.sum.specs.declared.Added.{Added}
 use Rattle.sum.specs.declared.Size.{Size}
@@ -115,9 +114,20 @@ termsOf s = take (min (s .n) 16) (s .terms)
 unfoldable pub asSum : List Term → Sum
 asSum l = record { n = length l; terms = l ++ replicate (16 - length l) zeroTerm }
 
--- The terms that a collector holds.
-unfoldable pub gathered : Gather → List Term
-gathered g = take (g .n) (g .terms)
+-- A list of coefficients and a list of packed symbols as terms, place by place.
+unfoldable pub paired : List ℕ → List ℕ → List Term
+paired [] ms = []
+paired (c ∷ cs) [] = []
+paired (c ∷ cs) (m ∷ ms) = record { coef = c; mono = m } ∷ paired cs ms
+
+-- Two arrays, one of coefficients and one of packed symbols, have room for n terms.
+pub record Room (n : ℕ) (cs ms : List ℕ) : Type 0 where
+  pub coefs : n ≤ length cs
+  pub monos : n ≤ length ms
+
+-- The terms that are collected: the first n of the two arrays.
+unfoldable pub gathered : List ℕ → List ℕ → ℕ → List Term
+gathered cs ms n = take n (paired cs ms)
 
 -- Terms that are collected into a sum, or too large.
 unfoldable pub gatherK : ℕ → Outcome (List Term) → List Term → Outcome (List Term)
@@ -128,21 +138,21 @@ unfoldable pub sizedOf : Size → List Term → Outcome (List Term)
 sizedOf Fits l = fits l
 sizedOf TooLarge l = tooLarge
 
--- The terms that a growing collector holds, or too large.
-unfoldable pub grownOf : Grown → Outcome (List Term)
-grownOf r = sizedOf (r .size) (gathered (r .gather))
+-- The terms that are collected where each product was a term, or too large.
+unfoldable pub grownOf : List ℕ → List ℕ → Grown → Outcome (List Term)
+grownOf cs ms r = sizedOf (r .size) (gathered cs ms (r .n))
 
 -- What an operation answers: the sum that fits, or too large with the empty sum.
 unfoldable pub addedOf : Outcome (List Term) → Added
 addedOf tooLarge = record { size = TooLarge; sum = asSum [] }
 addedOf (fits l) = record { size = Fits; sum = asSum l }
 
--- The first place of a list whose symbols do not precede the given ones.
-unfoldable pub placeOf : ℕ → List Term → ℕ
+-- The first place of a list of packed symbols that do not precede the given ones.
+unfoldable pub placeOf : ℕ → List ℕ → ℕ
 placeOf m [] = 0
-placeOf m (u ∷ s) =
-    let later = placeOf m s in
-    cond (ltb (u .mono) m) (suc later) 0
+placeOf m (u ∷ ms) =
+    let later = placeOf m ms in
+    cond (ltb u m) (suc later) 0
 
 -- A term of the paper with its symbols packed, by a function that packs lists of symbols.
 unfoldable pub packTerm : (List ℕ → ℕ) → Model.Term → Term

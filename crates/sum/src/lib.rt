@@ -1,13 +1,14 @@
 // Normal sums as the code holds them: at most 16 terms, each a coefficient and its symbols packed into one number. Sums are added,
 // subtracted, negated, multiplied and compared. Each contract is an equation on the whole answer with the definitions of specs/Packed; a count
-// over 16 is read as 16, and entries past the count of a result are zero. Assumes nothing.
+// over 16 is read as 16, and entries past the count of a result are zero. Terms are collected in two lent arrays, coefs and monos, of which
+// the first n entries count. Assumes nothing.
 ghost use mathlib.Core.Path.{_≡_};
 ghost use mathlib.Core.List.{[], _∷_, _++_};
-ghost use Prim.Native.Nat.{ℕ, suc, _+_, _≤_, _<_, min};
-ghost use lib.ListN.{take, drop, getD, replicate};
+ghost use Prim.Native.Nat.{suc, _+_, _-_, _≤_, _<_, min};
+ghost use lib.ListN.{length, take, drop, getD, replicate};
 ghost use Rattle.model.specs.Word.{base};
 ghost use Rattle.model.specs.Sum.{tooLarge};
-ghost use Rattle.sum.specs.Packed.{keepK, joinedK, insertK, collectK, fitK, constantK, symbolK, addK, negateK, subtractK, termProductK, productsK, multiplyK, sameK, zeroTerm, termsOf, asSum, gathered, gatherK, grownOf, addedOf, placeOf};
+ghost use Rattle.sum.specs.Packed.{keepK, joinedK, insertK, collectK, fitK, constantK, symbolK, addK, negateK, subtractK, termProductK, productsK, multiplyK, sameK, zeroTerm, termsOf, asSum, Room, gathered, gatherK, grownOf, addedOf, placeOf};
 use key::Merged;
 
 // A coefficient, and the packed list of its symbols.
@@ -22,21 +23,15 @@ pub struct Sum {
     pub terms: [Term; 16],
 }
 
-// Terms being collected: the n first entries.
-struct Gather {
-    n: usize,
-    terms: [Term; 64],
-}
-
 // Whether an operation's result fits a sum.
 pub enum Size {
     Fits,
     TooLarge,
 }
 
-// Products being collected, or too large.
+// How many terms are collected, and whether each product was one of at most 4 symbols.
 struct Grown {
-    gather: Gather,
+    n: usize,
     size: Size,
 }
 
@@ -62,16 +57,13 @@ fn count(n: usize) -> usize
 }
 
 // The first place whose symbols do not precede the given ones.
-fn place(g: Gather, mono: u32) -> usize
-    requires { ⌜ g .n ≤ 64 ⌝ }
-    ensures { λ r. ⌜ r ≡ placeOf mono (gathered g) ⌝ }
+fn place(monos: &[u32], n: usize, mono: u32) -> usize
+    requires { ⌜ n ≤ length (now monos) ⌝ }
+    ensures { λ r. ⌜ r ≡ placeOf mono (take n (now (monos .entry))) ⌝ }
 {
-    let n = g.n;
-    let ts = g.terms;
     let mut i = 0;
     while i < n {
-        let t = ts[i];
-        if t.mono >= mono {
+        if monos[i] >= mono {
             return i;
         }
         i += 1;
@@ -79,122 +71,108 @@ fn place(g: Gather, mono: u32) -> usize
     i
 }
 
-// A term is put before place i.
-fn put_before(g: Gather, i: usize, t: Term) -> Gather
-    requires { ⌜ (i ≤ g .n) × (g .n < 64) ⌝ }
-    ensures { λ r. ⌜ (gathered r ≡ take i (gathered g) ++ t ∷ drop i (gathered g)) × (r .n ≡ g .n + 1) ⌝ }
+// A number is put before place i of the first n.
+fn put_before(xs: &mut [u32], n: usize, i: usize, x: u32)
+    requires { ⌜ (i ≤ n) × (n < length (now xs)) ⌝ }
+    ensures { λ _. ⌜ take (n + 1) (now (xs .exit)) ≡ take i (take n (now (xs .entry))) ++ x ∷ drop i (take n (now (xs .entry))) ⌝ }
 {
-    let n = g.n;
-    let mut ts = g.terms;
-    let mut carry = t;
+    let mut carry = x;
     let mut j = i;
     while j < n {
-        let next = ts[j];
-        ts[j] = carry;
+        let next = xs[j];
+        xs[j] = carry;
         carry = next;
         j += 1;
     }
-    ts[n] = carry;
-    Gather {
-        n: n + 1,
-        terms: ts,
-    }
+    xs[n] = carry;
 }
 
-// The term at place i is taken out.
-fn take_out(g: Gather, i: usize) -> Gather
-    requires { ⌜ (i < g .n) × (g .n ≤ 64) ⌝ }
-    ensures { λ r. ⌜ (gathered r ≡ take i (gathered g) ++ drop (suc i) (gathered g)) × (r .n + 1 ≡ g .n) ⌝ }
+// The number at place i of the first n is taken out.
+fn take_out(xs: &mut [u32], n: usize, i: usize)
+    requires { ⌜ (i < n) × (n ≤ length (now xs)) ⌝ }
+    ensures { λ _. ⌜ take (n - 1) (now (xs .exit)) ≡ take i (take n (now (xs .entry))) ++ drop (suc i) (take n (now (xs .entry))) ⌝ }
 {
-    let n = g.n;
-    let mut ts = g.terms;
     let last = n - 1;
     let mut j = i;
     while j < last {
-        let next = ts[j + 1];
-        ts[j] = next;
+        let next = xs[j + 1];
+        xs[j] = next;
         j += 1;
     }
-    Gather { n: last, terms: ts }
 }
 
 // A term is put before place i, unless its coefficient is zero.
-fn kept(g: Gather, i: usize, t: Term) -> Gather
-    requires { ⌜ (i ≤ g .n) × (g .n < 64) ⌝ }
-    ensures { λ r. ⌜ (gathered r ≡ take i (gathered g) ++ keepK t (drop i (gathered g))) × (r .n ≤ g .n + 1) ⌝ }
+fn kept(coefs: &mut [u32], monos: &mut [u32], n: usize, i: usize, t: Term) -> usize
+    requires { ⌜ Room (n + 1) (now coefs) (now monos) × (i ≤ n) ⌝ }
+    ensures { λ r. ⌜ (gathered (now (coefs .exit)) (now (monos .exit)) r ≡ take i (gathered (now (coefs .entry)) (now (monos .entry)) n) ++ keepK t (drop i (gathered (now (coefs .entry)) (now (monos .entry)) n))) × (r ≤ n + 1) ⌝ }
 {
     if t.coef == 0 {
-        return g;
+        return n;
     }
-    put_before(g, i, t)
+    put_before(coefs, n, i, t.coef);
+    put_before(monos, n, i, t.mono);
+    n + 1
 }
 
 // A term is joined with the one at place i, which has the same symbols.
-fn join(g: Gather, i: usize, t: Term) -> Gather
-    requires { ⌜ (i < g .n) × (g .n < 64) ⌝ }
-    ensures { λ r. ⌜ (gathered r ≡ take i (gathered g) ++ keepK (joinedK base t (getD (gathered g) i zeroTerm)) (drop (suc i) (gathered g))) × (r .n ≤ g .n + 1) ⌝ }
+fn join(coefs: &mut [u32], monos: &mut [u32], n: usize, i: usize, t: Term) -> usize
+    requires { ⌜ Room n (now coefs) (now monos) × (i < n) ⌝ }
+    ensures { λ r. ⌜ (gathered (now (coefs .exit)) (now (monos .exit)) r ≡ take i (gathered (now (coefs .entry)) (now (monos .entry)) n) ++ keepK (joinedK base t (getD (gathered (now (coefs .entry)) (now (monos .entry)) n) i zeroTerm)) (drop (suc i) (gathered (now (coefs .entry)) (now (monos .entry)) n))) × (r ≤ n + 1) ⌝ }
 {
-    let n = g.n;
-    let mut ts = g.terms;
-    let u = ts[i];
-    let joined = word::plus(t.coef, u.coef);
+    let joined = word::plus(t.coef, coefs[i]);
     if joined == 0 {
-        return take_out(g, i);
+        take_out(coefs, n, i);
+        take_out(monos, n, i);
+        return n - 1;
     }
-    ts[i] = Term {
-        coef: joined,
-        mono: u.mono,
-    };
-    Gather { n: n, terms: ts }
+    coefs[i] = joined;
+    n
 }
 
 // A term is collected.
-fn insert(g: Gather, t: Term) -> Gather
-    requires { ⌜ g .n < 64 ⌝ }
-    ensures { λ r. ⌜ (gathered r ≡ insertK base t (gathered g)) × (r .n ≤ g .n + 1) ⌝ }
+fn insert(coefs: &mut [u32], monos: &mut [u32], n: usize, t: Term) -> usize
+    requires { ⌜ Room (n + 1) (now coefs) (now monos) ⌝ }
+    ensures { λ r. ⌜ (gathered (now (coefs .exit)) (now (monos .exit)) r ≡ insertK base t (gathered (now (coefs .entry)) (now (monos .entry)) n)) × (r ≤ n + 1) ⌝ }
 {
-    let n = g.n;
-    let ts = g.terms;
-    let i = place(g, t.mono);
+    let i = place(monos, n, t.mono);
     if i >= n {
-        return kept(g, i, t);
+        return kept(coefs, monos, n, i, t);
     }
-    let u = ts[i];
-    if u.mono == t.mono {
-        return join(g, i, t);
+    if monos[i] == t.mono {
+        return join(coefs, monos, n, i, t);
     }
-    kept(g, i, t)
+    kept(coefs, monos, n, i, t)
 }
 
-// A sum's terms, in a collector.
-fn loaded(s: Sum) -> Gather
-    ensures { λ r. ⌜ (gathered r ≡ termsOf s) × (r .n ≤ 16) ⌝ }
+// A sum's terms, collected before any other.
+fn load(coefs: &mut [u32], monos: &mut [u32], s: Sum) -> usize
+    requires { ⌜ Room 16 (now coefs) (now monos) ⌝ }
+    ensures { λ r. ⌜ (gathered (now (coefs .exit)) (now (monos .exit)) r ≡ termsOf s) × (r ≤ 16) ⌝ }
 {
     let n = count(s.n);
     let from = s.terms;
-    let zero = Term { coef: 0, mono: 0 };
-    let mut ts = [zero; 64];
     let mut i = 0;
     while i < n {
         let t = from[i];
-        ts[i] = t;
+        coefs[i] = t.coef;
+        monos[i] = t.mono;
         i += 1;
     }
-    Gather { n: n, terms: ts }
+    n
 }
 
 // A sum's terms are collected in turn.
-fn collect(g: Gather, s: Sum) -> Gather
-    requires { ⌜ g .n ≤ 16 ⌝ }
-    ensures { λ r. ⌜ (gathered r ≡ collectK base (termsOf s) (gathered g)) × (r .n ≤ 64) ⌝ }
+fn collect(coefs: &mut [u32], monos: &mut [u32], n: usize, s: Sum) -> usize
+    requires { ⌜ Room (n + 16) (now coefs) (now monos) ⌝ }
+    ensures { λ r. ⌜ (gathered (now (coefs .exit)) (now (monos .exit)) r ≡ collectK base (termsOf s) (gathered (now (coefs .entry)) (now (monos .entry)) n)) × (r ≤ n + 16) ⌝ }
 {
-    let n = count(s.n);
+    let m = count(s.n);
     let from = s.terms;
-    let mut out = g;
+    let mut out = n;
     let mut i = 0;
-    while i < n {
+    while i < m {
         let t = from[i];
-        out = insert(out, t);
+        out = insert(coefs, monos, out, t);
         i += 1;
     }
     out
@@ -212,20 +190,20 @@ fn too_large() -> Added
 }
 
 // The sum that collected terms make, if they are at most 16.
-fn fit(g: Gather) -> Added
-    requires { ⌜ g .n ≤ 64 ⌝ }
-    ensures { λ r. ⌜ r ≡ addedOf (fitK (gathered g)) ⌝ }
+fn fit(coefs: &[u32], monos: &[u32], n: usize) -> Added
+    requires { ⌜ Room n (now coefs) (now monos) ⌝ }
+    ensures { λ r. ⌜ r ≡ addedOf (fitK (gathered (now (coefs .entry)) (now (monos .entry)) n)) ⌝ }
 {
-    let n = g.n;
     if n > Sum::TERMS {
         return too_large();
     }
-    let from = g.terms;
     let mut ts = blank();
     let mut i = 0;
     while i < n {
-        let t = from[i];
-        ts[i] = t;
+        ts[i] = Term {
+            coef: coefs[i],
+            mono: monos[i],
+        };
         i += 1;
     }
     Added {
@@ -235,25 +213,27 @@ fn fit(g: Gather) -> Added
 }
 
 // The product of two terms is collected.
-fn grow(g: Gather, t: Term, u: Term) -> Grown
-    requires { ⌜ g .n < 64 ⌝ }
-    ensures { λ r. ⌜ (grownOf r ≡ gatherK base (termProductK base t u) (gathered g)) × (r .gather .n ≤ g .n + 1) ⌝ }
+fn grow(coefs: &mut [u32], monos: &mut [u32], n: usize, t: Term, u: Term) -> Grown
+    requires { ⌜ Room (n + 1) (now coefs) (now monos) ⌝ }
+    ensures { λ r. ⌜ (grownOf (now (coefs .exit)) (now (monos .exit)) r ≡ gatherK base (termProductK base t u) (gathered (now (coefs .entry)) (now (monos .entry)) n)) × (r .n ≤ n + 1) ⌝ }
 {
     let product = word::times(t.coef, u.coef);
     if product == 0 {
         return Grown {
             size: Size::Fits,
-            gather: g,
+            n: n,
         };
     }
     match key::merge(t.mono, u.mono) {
         Merged::TooMany => Grown {
             size: Size::TooLarge,
-            gather: g,
+            n: n,
         },
         Merged::Packed(mono) => {
             let next = insert(
-                g,
+                coefs,
+                monos,
+                n,
                 Term {
                     coef: product,
                     mono: mono,
@@ -261,36 +241,35 @@ fn grow(g: Gather, t: Term, u: Term) -> Grown
             );
             Grown {
                 size: Size::Fits,
-                gather: next,
+                n: next,
             }
         }
     }
 }
 
 // The products of a term with each term of a sum are collected.
-fn grow_row(g: Gather, t: Term, s: Sum) -> Grown
-    requires { ⌜ g .n + min (s .n) 16 ≤ 64 ⌝ }
-    ensures { λ r. ⌜ (grownOf r ≡ gatherK base (productsK (termProductK base t) (termsOf s)) (gathered g)) × (r .gather .n ≤ g .n + min (s .n) 16) ⌝ }
+fn grow_row(coefs: &mut [u32], monos: &mut [u32], n: usize, t: Term, s: Sum) -> Grown
+    requires { ⌜ Room (n + min (s .n) 16) (now coefs) (now monos) ⌝ }
+    ensures { λ r. ⌜ (grownOf (now (coefs .exit)) (now (monos .exit)) r ≡ gatherK base (productsK (termProductK base t) (termsOf s)) (gathered (now (coefs .entry)) (now (monos .entry)) n)) × (r .n ≤ n + min (s .n) 16) ⌝ }
 {
-    let n = count(s.n);
+    let m = count(s.n);
     let from = s.terms;
-    let mut out = g;
+    let mut out = n;
     let mut i = 0;
-    while i < n {
+    while i < m {
         let u = from[i];
-        let next = grow(out, t, u);
+        let next = grow(coefs, monos, out, t, u);
         let size = next.size;
         match size {
             Size::TooLarge => return next,
             Size::Fits => {}
         }
-        let gather = next.gather;
-        out = gather;
+        out = next.n;
         i += 1;
     }
     Grown {
         size: Size::Fits,
-        gather: out,
+        n: out,
     }
 }
 
@@ -338,7 +317,11 @@ impl Sum {
     pub fn add(self, other: Sum) -> Added
         ensures { λ r. ⌜ r ≡ addedOf (addK base (termsOf self) (termsOf other)) ⌝ }
     {
-        fit(collect(loaded(self), other))
+        let mut coefs = [0u32; 32];
+        let mut monos = [0u32; 32];
+        let n = load(&mut coefs, &mut monos, self);
+        let m = collect(&mut coefs, &mut monos, n, other);
+        fit(&coefs, &monos, m)
     }
 
     // The negation of a sum.
@@ -378,23 +361,22 @@ impl Sum {
             return too_large();
         }
         let from = self.terms;
-        let zero = Term { coef: 0, mono: 0 };
-        let ts = [zero; 64];
-        let mut out = Gather { n: 0, terms: ts };
+        let mut coefs = [0u32; 64];
+        let mut monos = [0u32; 64];
+        let mut out = 0;
         let mut i = 0;
         while i < n {
             let t = from[i];
-            let next = grow_row(out, t, other);
+            let next = grow_row(&mut coefs, &mut monos, out, t, other);
             let size = next.size;
             match size {
                 Size::TooLarge => return too_large(),
                 Size::Fits => {}
             }
-            let gather = next.gather;
-            out = gather;
+            out = next.n;
             i += 1;
         }
-        fit(out)
+        fit(&coefs, &monos, out)
     }
 
     // Whether two sums are the same, term by term.

@@ -2,7 +2,8 @@
 // three tests. Each contract is the definition of `model` at width 32. Assumes nothing.
 ghost use mathlib.Core.Path.{_≡_};
 ghost use Rattle.model.specs.Word.{base, plus as plusOf, minus as minusOf, times as timesOf, negated as negatedOf, signed as signedOf, holds as holdsOf};
-ghost use Rattle.word.specs.Kinds.{kindOf};
+ghost use Rattle.model.specs.Table.{kindOf as kindNumbered};
+ghost use Rattle.word.specs.Kinds.{kindOf, kindAs};
 
 // The sum of two words.
 pub fn plus(a: u32, b: u32) -> u32
@@ -48,6 +49,19 @@ pub enum Kind {
     Equal,
     SignedLess,
     UnsignedLess,
+}
+
+// The kind of a test by its number: 0 equal, 1 signed less, any other unsigned less.
+pub fn kind_of(n: u32) -> Kind
+    ensures { λ r. ⌜ r ≡ kindAs (kindNumbered n) ⌝ }
+{
+    if n == 0 {
+        return Kind::Equal;
+    }
+    if n == 1 {
+        return Kind::SignedLess;
+    }
+    Kind::UnsignedLess
 }
 
 // Whether a test is true of two words.

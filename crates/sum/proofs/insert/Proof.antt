@@ -1,14 +1,10 @@
 -- `sum::insert` collects a term. Assumes nothing.
-use Prim.Native.Nat.{_≤_}
-use mathlib.Core.Path.{_≡_}
+use mathlib.Core.Path.{sym, ap, _∙_}
 use native.Mathlib.Omega.{arith}
 use borrow.Author.Needs.{needs}
-use lib.ListN.{length, take}
 use Rattle.model.specs.Word.{base}
-use lib.Seq.{length-take-le}
-use Rattle.sum.specs.Packed.{gathered}
-use Rattle.sum.proofs.Full.{gather-full}
-use Rattle.sum.proofs.Insertion.{found-within, inserted-kept, inserted-between, inserted-joined}
+use Rattle.sum.proofs.Arrays.{room-less, gathered-length, gathered-at, gathered-place}
+use Rattle.sum.proofs.Insertion.{found-within, inserted-kept, inserted-joined}
 use Rattle.sum.proofs.insert.Statement.{statement}
 use Rattle.sum.proofs.insert.Tie as tie
 
@@ -16,41 +12,54 @@ place-requires : tie.Need-place-requires
 place-requires c κs = search needs
 
 kept-requires : tie.Need-kept-requires
-unfolding gathered
-kept-requires c κs =
-    let f = gather-full (c .before .before .before .args .g) (c .before .before .before .good .0) in
-    let w : c .before .place .result ≤ c .before .before .before .args .g .n = found-within _ _ _ _ (omega (arith, c .before .before .before .pre)) (c .before .place .ensures) in
-    (w, c .before .before .before .pre)
+kept-requires c κs = (c .before .before .before .before .before .before .before .pre, found-within _ _ _ _ (omega (arith, c .before .before .before .before .before .before .before .pre .monos)) (c .before .before .before .place .ensures))
+
+same-length : tie.Need-same-length
+same-length c = search needs
+
+same-length-2 : tie.Need-same-length-2
+same-length-2 c = search needs
 
 returns : tie.Need-returns
-unfolding gathered
 returns c =
-    let f = gather-full (c .before .before .before .before .args .g) (c .before .before .before .before .good .0) in
-    let p : length (take (c .before .before .before .before .args .g .n) (c .before .before .before .before .args .g .terms)) ≡ c .before .before .before .before .args .g .n = length-take-le (c .before .before .before .before .args .g .n) (c .before .before .before .before .args .g .terms) (omega (arith, c .before .before .before .before .pre)) in
-    (inserted-kept base _ _ _ _ (c .before .before .place .ensures) (λ h _. omega (arith, c .before .if1 .taken)) (c .kept .ensures .0), c .kept .ensures .1)
+    let room = room-less _ _ _ (c .before .before .before .before .before .before .before .before .before .before .before .before .pre) in
+    (inserted-kept base _ _ _ _ (gathered-place _ _ _ room _ _ (c .before .before .before .before .before .before .before .before .place .ensures)) (λ h _. omega (arith, c .before .before .before .before .before .before .before .if1 .taken, gathered-length _ _ _ room)) (c .before .before .before .before .kept .ensures .0), c .before .before .before .before .kept .ensures .1)
 
-mul-u : tie.Need-mul-u
-mul-u c = search needs
+mul-if2 : tie.Need-mul-if2
+mul-if2 c = search needs
 
-array-copy-out-u : tie.Need-array-copy-out-u
-array-copy-out-u c = search needs
+slice-read-if2 : tie.Need-slice-read-if2
+slice-read-if2 c = search needs
 
 join-requires : tie.Need-join-requires
 join-requires c κs = search needs
 
+same-length-3 : tie.Need-same-length-3
+same-length-3 c = search needs
+
+same-length-4 : tie.Need-same-length-4
+same-length-4 c = search needs
+
 returns-2 : tie.Need-returns-2
-unfolding gathered
 returns-2 c =
-    let f = gather-full (c .before .before .before .before .before .before .before .before .args .g) (c .before .before .before .before .before .before .before .before .good .0) in
-    (inserted-joined base _ _ _ _ _ (c .before .before .before .before .before .before .place .ensures) (c .before .before .before .before .before .if1 .left) (omega (arith, c .before .before .before .before .before .before .before .before .pre)) (c .before .if2 .taken) (c .join .ensures .0), c .join .ensures .1)
+    let room = room-less _ _ _ (c .before .before .before .before .before .before .before .before .before .before .before .before .before .before .before .pre) in
+    let at = ap (λ u. u .mono) (gathered-at _ _ _ room _ (c .before .before .before .before .before .before .before .before .before .before .if1 .left)) in
+    (inserted-joined base _ _ _ _ (gathered-place _ _ _ room _ _ (c .before .before .before .before .before .before .before .before .before .before .before .place .ensures)) (omega (arith, c .before .before .before .before .before .before .before .before .before .before .if1 .left, gathered-length _ _ _ room)) (at ∙ c .before .before .before .before .before .before .before .if2 .taken) (c .before .before .before .before .join .ensures .0), c .before .before .before .before .join .ensures .1)
 
 kept-requires-2 : tie.Need-kept-requires-2
 kept-requires-2 c κs = search needs
 
+same-length-5 : tie.Need-same-length-5
+same-length-5 c = search needs
+
+same-length-6 : tie.Need-same-length-6
+same-length-6 c = search needs
+
 returns-3 : tie.Need-returns-3
-unfolding gathered
 returns-3 c =
-    (inserted-between base _ _ _ _ _ (c .before .before .before .before .before .before .place .ensures) (c .before .before .before .before .before .if1 .left) (c .before .if2 .left) (c .kept2 .ensures .0), c .kept2 .ensures .1)
+    let room = room-less _ _ _ (c .before .before .before .before .before .before .before .before .before .before .before .before .before .before .before .pre) in
+    let at = ap (λ u. u .mono) (gathered-at _ _ _ room _ (c .before .before .before .before .before .before .before .before .before .before .if1 .left)) in
+    (inserted-kept base _ _ _ _ (gathered-place _ _ _ room _ _ (c .before .before .before .before .before .before .before .before .before .before .before .place .ensures)) (λ _ e. c .before .before .before .before .before .before .before .if2 .left (sym at ∙ e)) (c .before .before .before .before .kept2 .ensures .0), c .before .before .before .before .kept2 .ensures .1)
 
 pub insert-spec : {M : Type 1} → statement M
 insert-spec =
@@ -58,10 +67,16 @@ insert-spec =
     (tie.spec
     place-requires
     kept-requires
+    same-length
+    same-length-2
     returns
-    mul-u
-    array-copy-out-u
+    mul-if2
+    slice-read-if2
     join-requires
+    same-length-3
+    same-length-4
     returns-2
     kept-requires-2
+    same-length-5
+    same-length-6
     returns-3)

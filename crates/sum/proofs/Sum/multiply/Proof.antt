@@ -1,8 +1,10 @@
 -- `sum::Sum::multiply` is the product of two sums. Assumes nothing.
 use Prim.Native.Nat.{_-_, _*_, _≤_}
-use mathlib.Core.Path.{_≡_}
+use mathlib.Core.Path.{_≡_, refl}
+use mathlib.Core.List.{[]}
 use native.Mathlib.Omega.{arith}
 use borrow.Author.Needs.{needs}
+use lib.ListN.{length}
 use Rattle.model.specs.Word.{base}
 use Rattle.sum.specs.Packed.{gathered}
 use Rattle.sum.proofs.Full.{sum-full}
@@ -11,11 +13,11 @@ use Rattle.sum.proofs.Sum.multiply.Statement.{statement}
 use Rattle.sum.proofs.Sum.multiply.Tie as tie
 
 abbrev Inv-loop : tie.InvT-loop
-Inv-loop other n m from out₀ i₀ out i =
-    Multiplied base (Products base other) n from (gathered out₀) (gathered out) i × (out .n ≤ i * m) × (n ≤ 16)
+Inv-loop other n m from coefs₀ monos₀ out₀ i₀ coefs monos out i =
+    Multiplied base (Products base other) n from [] (gathered coefs monos out) i × (out ≤ i * m) × (n ≤ 16) × (length coefs ≡ 64) × (length monos ≡ 64)
 
 abbrev μ-loop : tie.MeasureT-loop
-μ-loop other n m from out₀ i₀ out i = n - i
+μ-loop other n m from coefs₀ monos₀ out₀ i₀ coefs monos out i = n - i
 
 count-requires : tie.Need-count-requires Inv-loop μ-loop
 count-requires c κs = search needs
@@ -36,9 +38,11 @@ returns c =
     multiplied-many base _ _ _ _ f g (c .before .before .before .count .ensures) (c .before .before .count2 .ensures) _ (c .before .if1 .taken) (c .too-large .ensures)
 
 loop-holds : tie.Need-loop-holds Inv-loop μ-loop
+unfolding gathered
 loop-holds c =
     let f = sum-full (c .before .before .before .before .args .self) (c .before .before .before .before .good .0) in
-    (multiply-start base _ _ _ _ (omega (arith, c .before .before .before .count .ensures)), omega arith, omega (arith, c .before .before .before .count .ensures))
+    let k : c .before .before .before .count .result ≤ 16 = omega (arith, c .before .before .before .count .ensures) in
+    (multiply-start base _ _ _ _ (omega arith), omega arith, k, refl, refl)
 
 mul-t : tie.Need-mul-t Inv-loop μ-loop
 mul-t c = search needs
@@ -46,9 +50,19 @@ mul-t c = search needs
 array-copy-out-t : tie.Need-array-copy-out-t Inv-loop μ-loop
 array-copy-out-t c = search needs
 
+slice-aggregate-grow-row : tie.Need-slice-aggregate-grow-row Inv-loop μ-loop
+slice-aggregate-grow-row c = search needs
+
+slice-aggregate-grow-row-2 : tie.Need-slice-aggregate-grow-row-2 Inv-loop μ-loop
+slice-aggregate-grow-row-2 c = search needs
+
 grow-row-requires : tie.Need-grow-row-requires Inv-loop μ-loop
 grow-row-requires c κs =
-    omega (arith, c .before .before .before .before .before .count2 .ensures, c .before .before .loop .inv .1, row-room (c .before .before .loop .i) (c .before .before .before .before .before .before .count .result) (c .before .before .before .before .before .count2 .result) (c .before .loop-test .taken) (c .before .before .before .before .if1 .left))
+    let room = row-room (c .before .before .before .before .loop .i) (c .before .before .before .before .before .before .before .before .count .result) (c .before .before .before .before .before .before .before .count2 .result) (c .before .before .before .loop-test .taken) (c .before .before .before .before .before .before .if1 .left) in
+    record {
+      coefs = omega (arith, c .before .before .before .before .before .before .before .count2 .ensures, c .before .before .before .before .loop .inv .1, c .before .before .before .before .loop .inv .3);
+      monos = omega (arith, c .before .before .before .before .before .before .before .count2 .ensures, c .before .before .before .before .loop .inv .1, c .before .before .before .before .loop .inv .4);
+    }
 
 enum-told : tie.Need-enum-told Inv-loop μ-loop
 enum-told c = search needs
@@ -57,12 +71,11 @@ too-large-requires-2 : tie.Need-too-large-requires-2 Inv-loop μ-loop
 too-large-requires-2 c κs = search needs
 
 returns-2 : tie.Need-returns-2 Inv-loop μ-loop
-unfolding gathered
 returns-2 c =
-    let f = sum-full (c .before .before .before .before .before .before .before .before .before .before .before .args .self) (c .before .before .before .before .before .before .before .before .before .before .before .good .0) in
-    let g = sum-full (c .before .before .before .before .before .before .before .before .before .before .before .args .other) (c .before .before .before .before .before .before .before .before .before .before .before .good .1 .0) in
-    multiplied-large base _ _ _ _ f g (c .before .before .before .before .before .before .before .before .before .before .count .ensures) (c .before .before .before .before .before .before .before .before .before .count2 .ensures) _ (c .before .before .before .before .before .before .before .before .if1 .left) (c .too-large2 .ensures)
-    (multiply-stop base _ _ _ _ _ _ (c .before .before .before .before .before .before .loop .inv .0) (c .before .before .before .before .before .loop-test .taken) (grown-large (c .before .before .before .grow-row .result) _ (c .before .enum-told .given .1) (c .before .before .before .grow-row .ensures .0)))
+    let f = sum-full (c .before .before .before .before .before .before .before .before .before .before .before .before .before .before .before .args .self) (c .before .before .before .before .before .before .before .before .before .before .before .before .before .before .before .good .0) in
+    let g = sum-full (c .before .before .before .before .before .before .before .before .before .before .before .before .before .before .before .args .other) (c .before .before .before .before .before .before .before .before .before .before .before .before .before .before .before .good .1 .0) in
+    multiplied-large base _ _ _ _ f g (c .before .before .before .before .before .before .before .before .before .before .before .before .before .before .count .ensures) (c .before .before .before .before .before .before .before .before .before .before .before .before .before .count2 .ensures) _ (c .before .before .before .before .before .before .before .before .before .before .before .before .if1 .left) (c .too-large2 .ensures)
+    (multiply-stop base _ _ _ _ _ _ (c .before .before .before .before .before .before .before .before .before .before .loop .inv .0) (c .before .before .before .before .before .before .before .before .before .loop-test .taken) (grown-large _ _ (c .before .before .before .before .before .grow-row .result) _ (c .before .enum-told .given .1) (c .before .before .before .before .before .grow-row .ensures .0)))
 
 enum-told-2 : tie.Need-enum-told-2 Inv-loop μ-loop
 enum-told-2 c = search needs
@@ -75,22 +88,33 @@ loop-less c = search needs
 
 loop-again : tie.Need-loop-again Inv-loop μ-loop
 loop-again c = (
-  multiply-step base _ _ _ _ _ _ _ (c .before .before .before .before .before .before .loop .inv .0) (c .before .before .before .before .before .loop-test .taken) (grown-fits (c .before .before .before .grow-row .result) _ (c .before .enum-told2 .given .1) (c .before .before .before .grow-row .ensures .0)),
-  omega (arith, c .before .before .before .grow-row .ensures .1, c .before .before .before .before .before .before .before .before .before .count2 .ensures, c .before .before .before .before .before .before .loop .inv .1, row-more (c .before .before .before .before .before .before .loop .i) (c .before .before .before .before .before .before .before .before .before .count2 .result)),
-  c .before .before .before .before .before .before .loop .inv .2,
+  multiply-step base _ _ _ _ _ _ _ (c .before .before .before .before .before .before .before .before .before .loop .inv .0) (c .before .before .before .before .before .before .before .before .loop-test .taken) (grown-fits _ _ (c .before .before .before .before .grow-row .result) _ (c .enum-told2 .given .1) (c .before .before .before .before .grow-row .ensures .0)),
+  omega (arith, c .before .before .before .before .grow-row .ensures .1, c .before .before .before .before .before .before .before .before .before .before .before .before .count2 .ensures, c .before .before .before .before .before .before .before .before .before .loop .inv .1, row-more (c .before .before .before .before .before .before .before .before .before .loop .i) (c .before .before .before .before .before .before .before .before .before .before .before .before .count2 .result)),
+  c .before .before .before .before .before .before .before .before .before .loop .inv .2,
+  omega (arith, c .before .before .before .before .grow-row .kept .0, c .before .before .before .before .before .before .before .before .before .loop .inv .3),
+  omega (arith, c .before .before .before .before .grow-row .kept .1 .0, c .before .before .before .before .before .before .before .before .before .loop .inv .4),
 )
+
+slice-aggregate-fit : tie.Need-slice-aggregate-fit Inv-loop μ-loop
+slice-aggregate-fit c = search needs
+
+slice-aggregate-fit-2 : tie.Need-slice-aggregate-fit-2 Inv-loop μ-loop
+slice-aggregate-fit-2 c = search needs
 
 fit-requires : tie.Need-fit-requires Inv-loop μ-loop
 fit-requires c κs =
-    omega (arith, c .before .loop .inv .1, rows-room (c .before .loop .i) (c .before .before .before .before .before .count .result) (c .before .before .before .before .count2 .result) (c .before .loop .inv .0 .within) (c .before .before .before .if1 .left))
+    let room = rows-room (c .before .before .before .loop .i) (c .before .before .before .before .before .before .before .count .result) (c .before .before .before .before .before .before .count2 .result) (c .before .before .before .loop .inv .0 .within) (c .before .before .before .before .before .if1 .left) in
+    record {
+      coefs = omega (arith, c .before .before .before .loop .inv .1, c .before .before .before .loop .inv .3);
+      monos = omega (arith, c .before .before .before .loop .inv .1, c .before .before .before .loop .inv .4);
+    }
 
 returns-3 : tie.Need-returns-3 Inv-loop μ-loop
-unfolding gathered
 returns-3 c =
-    let f = sum-full (c .before .before .before .before .before .before .before .args .self) (c .before .before .before .before .before .before .before .good .0) in
-    let g = sum-full (c .before .before .before .before .before .before .before .args .other) (c .before .before .before .before .before .before .before .good .1 .0) in
-    multiplied-fits base _ _ _ _ f g (c .before .before .before .before .before .before .count .ensures) (c .before .before .before .before .before .count2 .ensures) _ _ (c .before .before .before .before .if1 .left) (c .fit .ensures)
-    (multiply-end base _ _ _ _ _ _ (c .before .before .loop .inv .0) (c .before .loop-test .left))
+    let f = sum-full (c .before .before .before .before .before .before .before .before .before .args .self) (c .before .before .before .before .before .before .before .before .before .good .0) in
+    let g = sum-full (c .before .before .before .before .before .before .before .before .before .args .other) (c .before .before .before .before .before .before .before .before .before .good .1 .0) in
+    multiplied-fits base _ _ _ _ f g (c .before .before .before .before .before .before .before .before .count .ensures) (c .before .before .before .before .before .before .before .count2 .ensures) _ _ (c .before .before .before .before .before .before .if1 .left) (c .fit .ensures)
+    (multiply-end base _ _ _ _ _ _ (c .before .before .before .before .loop .inv .0) (c .before .before .before .loop-test .left))
 
 pub multiply-spec : {M : Type 1} → statement M
 multiply-spec =
@@ -104,6 +128,8 @@ multiply-spec =
     loop-holds
     mul-t
     array-copy-out-t
+    slice-aggregate-grow-row
+    slice-aggregate-grow-row-2
     grow-row-requires
     enum-told
     too-large-requires-2
@@ -112,5 +138,7 @@ multiply-spec =
     add-i
     loop-less
     loop-again
+    slice-aggregate-fit
+    slice-aggregate-fit-2
     fit-requires
     returns-3)
