@@ -11,8 +11,7 @@ use Rattle.model.specs.Expr.{value}
 use Rattle.model.specs.Table.{Action, assign, read, write, codeArea, actionOf, actionAt}
 use Rattle.fault.proofs.Along.{upTo-cons, upTo-none}
 use Rattle.table.specs.declared.ActionRecord.{ActionRecord}
-use Rattle.run.specs.declared.Hand.{Hand}
-use Rattle.run.specs.Held.{perPort, Held, held, leftFrom, heldOf, actH, actAllH, writesOf, writesIn}
+use Rattle.run.specs.Held.{Hand, perPort, Held, held, leftFrom, heldOf, actH, actAllH, writesOf, writesIn}
 use Rattle.run.proofs.Ports.{port-get, port-set}
 use Rattle.run.proofs.Input.{Found}
 use Rattle.run.proofs.Choosing.{Worth}
@@ -71,14 +70,15 @@ buffer-act before (write p e) h =
 pub record Performing (image input before : List ℕ) (start : Hand) (begun : List ℕ) (first count : ℕ) (h : Hand) (out : List ℕ) (i n : ℕ) : Type 0 where
   pub place : i + n ≡ first + count
   pub long : length out ≡ length begun
+  pub four : length (h .next) ≡ 4
   pub room : h .written + 2 * writesIn (map (actionAt image) (upTo i n)) ≤ length out
   pub rest : actAllH base before (map (actionAt image) (upTo i n)) (heldOf input h out)
       ≡ actAllH base before (map (actionAt image) (upTo first count)) (heldOf input start begun)
 
 module _ (image input before : List ℕ) (start : Hand) (begun : List ℕ) (first count : ℕ) where
-  pub perform-start : start .written + 2 * writesIn (map (actionAt image) (upTo first count)) ≤ length begun
+  pub perform-start : length (start .next) ≡ 4 → start .written + 2 * writesIn (map (actionAt image) (upTo first count)) ≤ length begun
       → Performing image input before start begun first count start begun first count
-  perform-start h = record { place = refl; long = refl; room = h; rest = refl }
+  perform-start f h = record { place = refl; long = refl; four = f; room = h; rest = refl }
 
   -- The actions from i on are action i and those behind it.
   first-of : (i n : ℕ) → 0 < n → map (actionAt image) (upTo i n) ≡ actionAt image i ∷ map (actionAt image) (upTo (i + 1) (n - 1))
@@ -95,9 +95,9 @@ module _ (image input before : List ℕ) (start : Hand) (begun : List ℕ) (firs
   pub perform-step : (code : List ℕ) (h h′ : Hand) (out out′ : List ℕ) (i n : ℕ) (r : ActionRecord) → Performing image input before start begun first count h out i n → 0 < n
       → code ≡ codeArea image → actionAt image i ≡ actionOf (codeArea image) (r .kind) (r .a) (r .b)
       → heldOf input h′ out′ ≡ actH base before (actionOf code (r .kind) (r .a) (r .b)) (heldOf input h out)
-      → Performing image input before start begun first count h′ out′ (i + 1) (n - 1)
+      → length (h′ .next) ≡ 4 → Performing image input before start begun first count h′ out′ (i + 1) (n - 1)
   unfolding writesIn actAllH heldOf held
-  perform-step code h h′ out out′ i n r s m c a e =
+  perform-step code h h′ out out′ i n r s m c a e f =
       let act = actionAt image i in
       let rest = map (actionAt image) (upTo (i + 1) (n - 1)) in
       let same : heldOf input h′ out′ ≡ actH base before act (heldOf input h out) = rw (c, ← a) at e in
@@ -107,6 +107,7 @@ module _ (image input before : List ℕ) (start : Hand) (begun : List ℕ) (firs
       record {
         place = omega (arith, s .place);
         long = kept ∙ s .long;
+        four = f;
         room = omega arith;
         rest =
             ap (actAllH base before rest) same

@@ -14,13 +14,12 @@ use Rattle.model.specs.Answer.{sound, endStop, endLimit, endInput, endRoom}
 use Rattle.model.specs.Expr.{value}
 use Rattle.model.specs.Table.{Action, assign, read, write, Edge, states, tableOf, tableFault}
 use Rattle.model.specs.Run.{Event, took, gave, tick, reads, writes, Config, at, act, actAll, fire, isStop, sideAt, edgeOn, next, couples, coupleWords, given, enoughInput, enoughRoom, start, zeros, End, ended, runOn, endOf}
-use Rattle.model.proofs.Basics.{and-left, and-right, and-both, each-port}
+use Rattle.model.proofs.Basics.{and-left, and-right, and-both, each-port, same-tests}
 use Rattle.model.proofs.Runs.{reads-append}
 use Rattle.model.proofs.CheckedTable.{ReadsPort, checked-reset, checked-state}
 use Rattle.model.proofs.TrialRun.{next-state}
-use Rattle.run.specs.declared.Need.{Need}
-use Rattle.run.specs.Held.{perPort, held, heldAt, actH, actAllH, writesOf, writesIn, spendBy, spend, spendAll, needOf, Ending, ending, taken, runH}
-use Rattle.run.proofs.Ports.{port-get, port-set, every-port, both-ways}
+use Rattle.run.specs.Held.{Need, perPort, held, heldAt, actH, actAllH, writesOf, writesIn, spendBy, spend, spendAll, needOf, Ending, ending, taken, runH}
+use Rattle.run.proofs.Ports.{port-get, port-set, every-port}
 
 -- The couples of two logs.
 pub couples-append : (l m : List (Event ℕ)) → coupleWords (l ++ m) ≡ coupleWords l ++ coupleWords m
@@ -190,10 +189,10 @@ spent-left n (a ∷ l) p ports four =
     )
 
 -- The couples that a need counts.
-spent-writes : (n : Need) (l : List Action) → spendAll n l .writes ≡ n .writes + writesIn l
+pub all-writes : (n : Need) (l : List Action) → spendAll n l .writes ≡ n .writes + writesIn l
 unfolding spendAll writesIn spend spendBy writesOf
-spent-writes n [] = omega arith
-spent-writes n (a ∷ l) = omega (arith, one a, spent-writes (spend n a) l)
+all-writes n [] = omega arith
+all-writes n (a ∷ l) = omega (arith, one a, all-writes (spend n a) l)
   where
     one : (a : Action) → spend n a .writes ≡ n .writes + writesOf a
     one (assign v e) = omega arith
@@ -297,7 +296,7 @@ module _ (w : ℕ) (image input buffer : List ℕ) (passed : tableFault image �
   -- The input is enough for the edge as the model says.
   need-enough : (c : Config) → Standing image input buffer c → needAt c .enough ≡ enoughInput input (fire w (given input) (edgeAt′ c) c .log)
   unfolding enoughInput needOf fire at
-  need-enough c s = both-ways _ _ there back
+  need-enough c s = same-tests _ _ there back
     where
       acts : List Action
       acts = edgeAt′ c .actions
@@ -341,7 +340,7 @@ module _ (w : ℕ) (image input buffer : List ℕ) (passed : tableFault image �
   need-room c s =
       let acts = edgeAt′ c .actions in
       let cw = coupleWords (c .log) in
-      let count : spendAll (record { enough = true; left = map length (heldAt input buffer c .left); writes = 0 }) acts .writes ≡ 0 + writesIn acts = spent-writes _ acts in
+      let count : spendAll (record { enough = true; left = map length (heldAt input buffer c .left); writes = 0 }) acts .writes ≡ 0 + writesIn acts = all-writes _ acts in
       let more : length (coupleWords (actAll w (given input) (c .variables) acts c .log)) ≡ length cw + 2 * writesIn acts = couples-all w input buffer (c .variables) acts c in
       let long : length (cw ++ drop (length cw) buffer) ≡ length buffer = length-append cw _ ∙ (rw (length-drop (length cw) buffer) (omega (arith, s .room))) in
       let zero-plus : 0 + writesIn acts ≡ writesIn acts = omega arith in

@@ -2,7 +2,6 @@ pub mod Ports
 pub mod Holding
 pub mod Input
 pub mod Choosing
-pub mod Full
 pub mod Spending
 pub mod Acting
 pub mod Walking

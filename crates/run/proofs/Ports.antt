@@ -1,12 +1,12 @@
 -- Lists that hold something for each of the four ports, and tests of each port. Assumes nothing.
 use Prim.Native.Nat.{ℕ, zero, suc, _<_}
 use mathlib.Core.Path.{_≡_, refl}
-use mathlib.Core.Bool.{Bool, true, false}
+use mathlib.Core.Bool.{Bool, true}
 use mathlib.Core.List.{List, [], _∷_}
 use native.Mathlib.Omega.{arith}
 use lib.ListN.{length, getD, set}
 use Rattle.model.specs.Run.{eachPort}
-use Rattle.model.proofs.Basics.{and-both, clash}
+use Rattle.model.proofs.Basics.{and-both}
 use Rattle.run.specs.Held.{perPort}
 
 module _ {A : Type 0} where
@@ -43,10 +43,3 @@ pub every-port : (f : ℕ → Bool) → ((p : ℕ) → p < 4 → f p ≡ true) �
 unfolding eachPort
 every-port f h =
     and-both (h 0 (omega arith)) (and-both (h 1 (omega arith)) (and-both (h 2 (omega arith)) (h 3 (omega arith))))
-
--- Two tests that are passed together are equal.
-pub both-ways : (a b : Bool) → (a ≡ true → b ≡ true) → (b ≡ true → a ≡ true) → a ≡ b
-both-ways true true f g = refl
-both-ways true false f g = clash (f refl) refl
-both-ways false true f g = clash (g refl) refl
-both-ways false false f g = refl

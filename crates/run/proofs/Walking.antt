@@ -10,7 +10,7 @@ use lib.ListN.{length, getD, set, drop, replicate, length-map, length-drop, List
 use borrow.Author.Tests.{le-leb, lt-leb}
 use Rattle.model.specs.Answer.{Reason, endStop, endLimit, endInput, endRoom, numberOf, sound, upTo, word}
 use Rattle.model.specs.Word.{base, holds}
-use Rattle.model.specs.Expr.{value, readAt, treeOf}
+use Rattle.model.specs.Expr.{value, readAt, isParsed, treeOf}
 use Rattle.model.specs.Table.{Action, assign, read, write, states, edges, actions, codeArea, actionAt, edgeAt, kindOf, stateOf, tableOf, tableFault}
 use Rattle.model.specs.Run.{isStop, sideAt, edgeOn, at, reads, coupleWords, start, zeros, End, endOf, trialOf, bufferOf}
 use Rattle.model.proofs.Basics.{length-upTo}
@@ -18,25 +18,12 @@ use Rattle.model.proofs.CheckedTable.{checked-reset}
 use Rattle.table.specs.Checks.{stateRecord, edgeRecord}
 use Rattle.table.specs.declared.StateRecord.{StateRecord}
 use Rattle.table.specs.declared.EdgeRecord.{EdgeRecord}
-use Rattle.table.proofs.Decoding.{state-decoded, SoundEdge, sound-state, sound-edge, edge-is}
-use Rattle.run.specs.declared.Hand.{Hand}
-use Rattle.run.specs.declared.Need.{Need}
-use Rattle.run.specs.Held.{perPort, Held, held, leftFrom, heldOf, heldAt, actH, actAllH, writesOf, writesIn, spendBy, spend, spendAll, needOf, ending, taken, runH}
+use Rattle.table.proofs.Decoding.{state-decoded, SoundEdge, sound-state, sound-edge, edge-is, state-stops, state-goes}
+use Rattle.run.specs.Held.{Hand, hand, Need, needing, Needed, perPort, Held, held, leftFrom, heldOf, heldAt, actH, actAllH, writesOf, writesIn, spendBy, spend, spendAll, needOf, ending, taken, runH}
 use Rattle.run.specs.Answers.{answerOf, edgeBy, testOf, chosenEdge, endedOf, trialH}
-use Rattle.run.proofs.Holding.{endingAt, run-start}
+use Rattle.run.proofs.Holding.{endingAt, run-start, all-writes}
+use Rattle.run.proofs.Spending.{met-enough, met-writes, unmet}
 use Rattle.run.proofs.Acting.{written-all, buffer-all}
-
--- Whether a state is a stop, by its record's kind.
-
-kind-stop : (image : List ℕ) (k l r t f : ℕ) → k ≡ 0 → isStop (stateOf image k l r t f) ≡ true
-unfolding stateOf isStop
-kind-stop image k l r t f e = rw e
-
-kind-goes : (image : List ℕ) (k l r t f : ℕ) → (k ≡ 0 → ⊥) → isStop (stateOf image k l r t f) ≡ false
-unfolding stateOf isStop
-kind-goes image zero l r t f e = absurd (e refl)
-kind-goes image (suc zero) l r t f e = refl
-kind-goes image (suc (suc k)) l r t f e = refl
 
 -- The edge that a state takes is the one that its record names.
 
@@ -67,10 +54,15 @@ Actions image e = map (actionAt image) (upTo (e .first) (e .count))
 
 module _ (image : List ℕ) (passed : tableFault image ≡ sound) (s : ℕ) {r : StateRecord} (is : r ≡ stateRecord image s) where
   pub stops : r .kind ≡ 0 → isStop (tableOf image s) ≡ true
-  stops e = rw (state-decoded image s is) (kind-stop image _ _ _ _ _ e)
+  stops e = state-stops image s is e
 
   pub goes-on : (r .kind ≡ 0 → ⊥) → isStop (tableOf image s) ≡ false
-  goes-on e = rw (state-decoded image s is) (kind-goes image _ _ _ _ _ e)
+  goes-on e = state-goes image s is e
+
+  -- The expressions of a test.
+  pub test-read : (code : List ℕ) → code ≡ codeArea image → s < states image
+      → (2 ≤ r .kind → isParsed (readAt code (r .left)) ≡ true) × (2 ≤ r .kind → isParsed (readAt code (r .right)) ≡ true)
+  test-read code area h = let own = sound-state image passed s is h in rw area (own .left, own .right)
 
   module _ (vs code : List ℕ) {j at : ℕ} {e : EdgeRecord} (goes : r .kind ≡ 0 → ⊥) (area : code ≡ codeArea image) (named : j ≡ chosenEdge code vs r) (begins : at ≡ word image 5) (read : e ≡ edgeRecord image at j) where
     found : e ≡ edgeRecord image (word image 5) j
@@ -122,38 +114,28 @@ writes-most (a ∷ l) = omega (arith, at-most a, writes-most l)
     at-most (read p v) = omega arith
     at-most (write p e) = omega arith
 
-spend-count : (n : Need) (a : Action) → spend n a .writes ≡ n .writes + writesOf a
-unfolding spend spendBy writesOf
-spend-count n (assign v e) = omega arith
-spend-count n (read p v) = omega arith
-spend-count n (write p e) = refl
-
-spend-counts : (n : Need) (l : List Action) → spendAll n l .writes ≡ n .writes + writesIn l
-unfolding spendAll writesIn
-spend-counts n [] = omega arith
-spend-counts n (a ∷ l) = omega (arith, spend-count n a, spend-counts (spend n a) l)
-
-pub need-writes : (left : List ℕ) (image : List ℕ) (e : EdgeRecord) {n : Need} → n ≡ needOf left (Actions image e) → n .writes ≡ writesIn (Actions image e)
+pub need-writes : (left : List ℕ) (image : List ℕ) (e : EdgeRecord) → needOf left (Actions image e) .writes ≡ writesIn (Actions image e)
 unfolding needOf
-need-writes left image e h = ap (λ n. n .writes) h ∙ (spend-counts _ (Actions image e) ∙ (omega arith))
+need-writes left image e = all-writes _ (Actions image e) ∙ (omega arith)
 
-pub need-few : (left : List ℕ) (image : List ℕ) (e : EdgeRecord) {n : Need} → n ≡ needOf left (Actions image e) → e .count ≤ 16 → n .writes ≤ 16
-need-few left image e h few =
+pub need-few : (left : List ℕ) (image : List ℕ) (e : EdgeRecord) → e .count ≤ 16 → needOf left (Actions image e) .writes ≤ 16
+need-few left image e few =
     let many : length (Actions image e) ≡ e .count = length-map (upTo (e .first) (e .count)) (actionAt image) ∙ length-upTo (e .first) (e .count) in
-    omega (arith, need-writes left image e h, writes-most (Actions image e))
+    omega (arith, need-writes left image e, writes-most (Actions image e))
 
 -- Where the run stands at the head of the loop.
 pub record Walking (image input : List ℕ) (limit : ℕ) (begun : List ℕ) (out : List ℕ) (h : Hand) (left : List ℕ) (s done : ℕ) : Type 0 where
   pub within : done ≤ limit
   pub inside : s < states image
   pub long : length out ≡ length begun
+  pub four : length (h .next) ≡ 4
   pub room : h .written ≤ length out
   pub counts : left ≡ map length (heldOf input h out .left)
   pub rest : runH base (tableOf image) (limit - done) s (heldOf input h out) done ≡ runH base (tableOf image) limit 0 (heldAt input begun (start zeros)) 0
 
 -- What the engine holds at reset.
 abbrev pub resting : Hand
-resting = record { variables = replicate 16 0; next = replicate 4 0; written = 0 }
+resting = hand (replicate 16 0) (replicate 4 0) 0
 
 pub walk-start : (image input : List ℕ) (limit : ℕ) (out left : List ℕ) → tableFault image ≡ sound → left ≡ perPort (λ p. length (leftFrom input p 0))
     → Walking image input limit out out resting left 0 0
@@ -164,6 +146,7 @@ walk-start image input limit out left passed e =
       within = omega arith;
       inside = checked-reset image passed;
       long = refl;
+      four = refl;
       room = omega arith;
       counts = e;
       rest = rw all refl;
@@ -172,7 +155,7 @@ walk-start image input limit out left passed e =
 -- The answer and the buffer of a run that ends, from how the model's run ends.
 abbrev pub Answered : List ℕ → List ℕ → ℕ → List ℕ → ℕ → ℕ → ℕ → Hand → List ℕ → Type 0
 Answered image input limit begun number s done h out =
-    (endedOf number s done h ≡ answerOf (trialOf sound (endOf base zeros image input limit begun)))
+    (endedOf number s done (h .written) (h .variables) ≡ answerOf (trialOf sound (endOf base zeros image input limit begun)))
     × (out ≡ bufferOf sound (endOf base zeros image input limit begun) begun)
 
 answer-is : (input begun : List ℕ) (e : End) → answerOf (trialOf sound e) ≡ trialH (endingAt input begun e)
@@ -183,7 +166,7 @@ buffer-is : (input begun : List ℕ) (e : End) → bufferOf sound e begun ≡ en
 unfolding bufferOf endingAt ending heldAt held
 buffer-is input begun e = refl
 
-ended-is : (input out : List ℕ) (reason : Reason) (s done : ℕ) (h : Hand) → endedOf (numberOf reason) s done h ≡ trialH (ending reason s (heldOf input h out) done)
+ended-is : (input out : List ℕ) (reason : Reason) (s done : ℕ) (h : Hand) → endedOf (numberOf reason) s done (h .written) (h .variables) ≡ trialH (ending reason s (heldOf input h out) done)
 unfolding endedOf trialH ending heldOf held
 ended-is input out reason s done h = refl
 
@@ -220,36 +203,40 @@ module _ (image input : List ℕ) (limit : ℕ) (begun : List ℕ) (passed : tab
       finish endLimit (rw (none, e) refl)
 
   -- The run goes on, or input or room is lacking, by the need of the edge that is taken.
-  module _ (e : EdgeRecord) (n : Need) (more : done < limit) (goes : isStop (tableOf image s) ≡ false) (edge : edgeOn (tableOf image s) (sideAt base (h .variables) (tableOf image s)) ≡ record { target = e .target; actions = Actions image e }) (need : n ≡ needOf left (Actions image e)) where
+  module _ (e : EdgeRecord) (count : ℕ) (left′ : List ℕ) (more : done < limit) (goes : isStop (tableOf image s) ≡ false) (edge : edgeOn (tableOf image s) (sideAt base (h .variables) (tableOf image s)) ≡ record { target = e .target; actions = Actions image e }) (need : Needed (needOf left (Actions image e)) count left′) where
+    -- What the edge needs.
+    abbrev own : Need
+    own = needOf left (Actions image e)
+
     -- The order at a state that is no stop, with an edge left of the limit.
     turn : runH base (tableOf image) (limit - done) s here done
-        ≡ cond (n .enough)
-        (cond (leb (h .written + 2 * n .writes) (length out))
+        ≡ cond (own .enough)
+        (cond (leb (h .written + 2 * own .writes) (length out))
         (runH base (tableOf image) (limit - suc done) (e .target) (actAllH base (h .variables) (Actions image e) here) (suc done))
         (ending endRoom s here done))
         (ending endInput s here done)
     unfolding runH taken heldOf held
     turn =
         let left-of : limit - done ≡ suc (limit - suc done) = omega arith in
-        let mine : needOf (map length (here .left)) (Actions image e) ≡ n = sym (need ∙ ap (λ l. needOf l (Actions image e)) (now .counts)) in
+        let mine : needOf (map length (here .left)) (Actions image e) ≡ own = sym (ap (λ l. needOf l (Actions image e)) (now .counts)) in
         rw (left-of, goes, edge, mine) refl
 
-    pub ends-input : n .enough ≡ false → Answered image input limit begun 22 s done h out
+    pub ends-input : e .count ≤ 16 → 16 < count → Answered image input limit begun 22 s done h out
     unfolding numberOf
-    ends-input lacks = finish endInput (turn ∙ (rw lacks refl))
+    ends-input few lacks = finish endInput (turn ∙ (rw (unmet own (need .counts) (need-few left image e few) lacks) refl))
 
-    pub ends-room : n .enough ≡ true → length out - h .written < 2 * n .writes → Answered image input limit begun 23 s done h out
+    pub ends-room : count ≤ 16 → length out - h .written < 2 * count → Answered image input limit begun 23 s done h out
     unfolding numberOf
-    ends-room enough lacks =
-        let short : leb (h .written + 2 * n .writes) (length out) ≡ false = lt-leb (h .written + 2 * n .writes) (length out) (omega (arith, now .room)) in
-        finish endRoom (turn ∙ (rw (enough, short) refl))
+    ends-room met lacks =
+        let short : leb (h .written + 2 * own .writes) (length out) ≡ false = lt-leb (h .written + 2 * own .writes) (length out) (omega (arith, now .room, met-writes own (need .counts) met)) in
+        finish endRoom (turn ∙ (rw (met-enough own (need .counts) met, short) refl))
 
     -- The room that the edge's couples have.
-    pub roomy : 2 * n .writes ≤ length out - h .written → h .written + 2 * writesIn (Actions image e) ≤ length out
-    roomy fit = omega (arith, now .room, need-writes left image e need)
+    pub roomy : count ≤ 16 → 2 * count ≤ length out - h .written → h .written + 2 * writesIn (Actions image e) ≤ length out
+    roomy met fit = omega (arith, now .room, met-writes own (need .counts) met, need-writes left image e)
 
     -- The engine goes on where the edge is done.
-    turn-on : n .enough ≡ true → leb (h .written + 2 * n .writes) (length out) ≡ true
+    turn-on : own .enough ≡ true → leb (h .written + 2 * own .writes) (length out) ≡ true
         → runH base (tableOf image) (limit - done) s here done ≡ runH base (tableOf image) (limit - suc done) (e .target) (actAllH base (h .variables) (Actions image e) here) (suc done)
     turn-on enough fits = turn ∙ (rw (enough, fits) refl)
 
@@ -263,19 +250,20 @@ module _ (image input : List ℕ) (limit : ℕ) (begun : List ℕ) (passed : tab
       unfolding heldOf held
       out-written = ap (λ z. z .written) same ∙ written-all (h .variables) (Actions image e) here
 
-      out-counts : n .left ≡ map length (heldOf input h′ out′ .left)
+      out-counts : own .left ≡ map length (heldOf input h′ out′ .left)
       unfolding needOf
       out-counts =
-          ap (λ z. z .left) need
-          ∙ left-all (h .variables) (Actions image e) here (record { enough = true; left = left; writes = 0 }) (now .counts)
+          left-all (h .variables) (Actions image e) here (needing left 0) (now .counts)
           ∙ sym (ap (λ z. map length (z .left)) same)
 
     -- An edge further.
-    pub walk-step : (h′ : Hand) (out′ : List ℕ) → e .target < states image → n .enough ≡ true → 2 * n .writes ≤ length out - h .written
-        → heldOf input h′ out′ ≡ actAllH base (h .variables) (Actions image e) here
-        → Walking image input limit begun out′ h′ (n .left) (e .target) (done + 1)
-    walk-step h′ out′ target enough fit same =
-        let fits : leb (h .written + 2 * n .writes) (length out) ≡ true = le-leb (h .written + 2 * n .writes) (length out) (omega (arith, now .room)) in
+    pub walk-step : (h′ : Hand) (out′ : List ℕ) → e .target < states image → count ≤ 16 → 2 * count ≤ length out - h .written
+        → heldOf input h′ out′ ≡ actAllH base (h .variables) (Actions image e) here → length (h′ .next) ≡ 4
+        → Walking image input limit begun out′ h′ left′ (e .target) (done + 1)
+    walk-step h′ out′ target met fit same four =
+        let enough : own .enough ≡ true = met-enough own (need .counts) met in
+        let writes : count ≡ own .writes = met-writes own (need .counts) met in
+        let fits : leb (h .written + 2 * own .writes) (length out) ≡ true = le-leb (h .written + 2 * own .writes) (length out) (omega (arith, now .room)) in
         let one : suc done ≡ done + 1 = omega arith in
         let long : length out′ ≡ length out = out-long h′ out′ same in
         let wrote : h′ .written ≡ h .written + 2 * writesIn (Actions image e) = out-written h′ out′ same in
@@ -283,8 +271,9 @@ module _ (image input : List ℕ) (limit : ℕ) (begun : List ℕ) (passed : tab
           within = omega arith;
           inside = target;
           long = long ∙ now .long;
-          room = omega (arith, roomy fit);
-          counts = out-counts h′ out′ same;
+          four = four;
+          room = omega (arith, roomy met fit);
+          counts = need .leaves enough ∙ out-counts h′ out′ same;
           rest =
               rw (same, ← one) (sym (turn-on enough fits))
               ∙ now .rest;

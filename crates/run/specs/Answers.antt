@@ -9,10 +9,7 @@ use Rattle.model.specs.Expr.{readAt, treeOf, value}
 use Rattle.model.specs.Table.{kindOf}
 use Rattle.model.specs.Run as Model
 use Rattle.model.specs.Run.{couples, portsRight, zeros}
-use Rattle.word.specs.declared.Kind.{Kind}
-use Rattle.word.specs.declared.Kind.the-variants.{Equal, SignedLess, UnsignedLess}
 use Rattle.table.specs.declared.StateRecord.{StateRecord}
-use Rattle.run.specs.declared.Hand.{Hand}
 use Rattle.run.specs.declared.Trial.{Trial}
 use Rattle.run.specs.Held.{Ending}
 
@@ -32,14 +29,6 @@ answerOf t =
 -- The rules of an input: "input words odd in number, or a port over 3".
 unfoldable pub inputRules : List ℕ → List Rule
 inputRules input = is (length input % 2) 0 ∷ so (portsRight (couples input)) ∷ []
-
--- The kind of a test by its number in a state's record.
-unfoldable pub kindIs : ℕ → Kind
-kindIs zero = UnsignedLess
-kindIs (suc zero) = UnsignedLess
-kindIs (suc (suc zero)) = Equal
-kindIs (suc (suc (suc zero))) = SignedLess
-kindIs (suc (suc (suc (suc k)))) = UnsignedLess
 
 -- The edge that a state's record names at the variables: a step has its only one in the fourth word.
 unfoldable pub edgeBy : ℕ → ℕ → ℕ → Bool → ℕ
@@ -61,9 +50,9 @@ unfoldable pub refusedOf : ℕ → ℕ → ℕ → Trial
 refusedOf n i r = record { number = n; image = i; «record» = r; state = 0; edges = 0; couples = 0; variables = zeros }
 
 -- A run that ended, from what the engine holds.
-unfoldable pub endedOf : ℕ → ℕ → ℕ → Hand → Trial
-endedOf n s edges h =
-    record { number = n; image = 0; «record» = 0; state = s; edges = edges; couples = h .written / 2; variables = h .variables }
+unfoldable pub endedOf : ℕ → ℕ → ℕ → ℕ → List ℕ → Trial
+endedOf n s edges written vs =
+    record { number = n; image = 0; «record» = 0; state = s; edges = edges; couples = written / 2; variables = vs }
 
 -- The answer of an ending.
 unfoldable pub trialH : Ending → Trial

@@ -1,7 +1,8 @@
 -- What the engine holds of a run, in place of the log: the variables, the words that each port has left, and the buffer as written so
 -- far; and what actions and edges do to it. proofs/ says that this is the model's run. Assumes nothing.
 use Prim.Native.Nat.{ℕ, zero, suc, _+_, _*_, _-_}
-use mathlib.Core.Bool.{true, cond, _&&_}
+use mathlib.Core.Path.{_≡_}
+use mathlib.Core.Bool.{Bool, true, cond, _&&_}
 use mathlib.Core.List.{List, [], _∷_, _++_, map}
 use lib.Dec.{leb, ltb}
 use lib.ListN.{length, getD, set, drop}
@@ -9,8 +10,6 @@ use Rattle.model.specs.Answer.{Reason, endStop, endLimit, endInput, endRoom}
 use Rattle.model.specs.Expr.{value}
 use Rattle.model.specs.Table.{Action, assign, read, write, Edge, Table}
 use Rattle.model.specs.Run.{reads, writes, couples, coupleWords, Config, isStop, sideAt, edgeOn}
-use Rattle.run.specs.declared.Hand.{Hand}
-use Rattle.run.specs.declared.Need.{Need}
 
 -- What there is for each of the four ports, as a list.
 unfoldable pub perPort : {A : Type 0} → (ℕ → A) → List A
@@ -31,7 +30,17 @@ held vs left n buffer = record { variables = vs; left = left; written = n; buffe
 unfoldable pub leftFrom : List ℕ → ℕ → ℕ → List ℕ
 leftFrom input p at = writes p (couples (drop at input))
 
--- What the engine's struct and the lent buffer hold.
+-- What the engine holds of these: the variables, for each port the place in the input from which its next word is looked for, and how
+-- many words of the buffer are written.
+pub record Hand : Type 0 where
+  pub variables : List ℕ
+  pub next : List ℕ
+  pub written : ℕ
+
+abbrev pub hand : List ℕ → List ℕ → ℕ → Hand
+hand vs next n = record { variables = vs; next = next; written = n }
+
+-- What a hand and the lent buffer hold.
 unfoldable pub heldOf : List ℕ → Hand → List ℕ → Held
 heldOf input h out = held (h .variables) (perPort (λ p. leftFrom input p (getD (h .next) p 0))) (h .written) out
 
@@ -72,6 +81,16 @@ unfoldable pub writesIn : List Action → ℕ
 writesIn [] = 0
 writesIn (a ∷ l) = writesOf a + writesIn l
 
+-- What actions need: whether each port has the words that they read, how many each has left behind them, and how many couples they write.
+pub record Need : Type 0 where
+  pub enough : Bool
+  pub left : List ℕ
+  pub writes : ℕ
+
+-- The need so far of actions that lack no word.
+abbrev pub needing : List ℕ → ℕ → Need
+needing left n = record { enough = true; left = left; writes = n }
+
 -- One action's need, by the kind and the port of its record.
 unfoldable pub spendBy : Need → ℕ → ℕ → Need
 spendBy n zero p = n
@@ -96,7 +115,16 @@ spendAll n (a ∷ rest) = spendAll (spend n a) rest
 
 -- The need of an edge where so many words are left on each port.
 unfoldable pub needOf : List ℕ → List Action → Need
-needOf left l = spendAll (record { enough = true; left = left; writes = 0 }) l
+needOf left l = spendAll (needing left 0) l
+
+-- A need as one number: the couples that are written, at most 16, or 17 where a word is lacking.
+unfoldable pub countOf : Need → ℕ
+countOf n = cond (n .enough) (n .writes) 17
+
+-- A need as the engine has it: that number, and what is left on each port unless a word is lacking.
+pub record Needed (n : Need) (count : ℕ) (left : List ℕ) : Type 0 where
+  pub counts : count ≡ countOf n
+  pub leaves : n .enough ≡ true → left ≡ n .left
 
 -- How a run ended: why, in which state, what is held, and after how many edges.
 pub record Ending : Type 0 where

@@ -7,16 +7,14 @@ ghost use Prim.Native.Nat.{_+_, _*_, _≤_, _<_};
 ghost use lib.ListN.{length, getD, drop};
 ghost use Rattle.model.specs.Answer.{sound, upTo, allKept, word};
 ghost use Rattle.model.specs.Word.{base};
-ghost use Rattle.model.specs.Expr.{readAt, treeOf, value};
+ghost use Rattle.model.specs.Expr.{readAt, isParsed};
 ghost use Rattle.model.specs.Table.{codeArea, actions, actionOf, actionAt, tableFault};
 ghost use Rattle.model.specs.Run.{zeros, endOf, trialOf, bufferOf, trial, trialBuffer};
-ghost use Rattle.run.specs.Held.{perPort, leftFrom, heldOf, actH, actAllH, spendBy, needOf, writesOf, writesIn};
-ghost use Rattle.run.specs.Answers.{answerOf, inputRules, kindIs, chosenEdge, refusedOf, endedOf};
-use expr::Valued;
+ghost use Rattle.run.specs.Held.{perPort, leftFrom, hand, heldOf, actH, actAllH, needing, spendBy, needOf, countOf, Needed, writesOf, writesIn};
+ghost use Rattle.run.specs.Answers.{answerOf, inputRules, chosenEdge, refusedOf, endedOf};
 use fault::Checked;
 use table::ActionRecord;
 use table::StateRecord;
-use word::Kind;
 
 // How a trial run ended: the number, image and record, the state reached, the edges done, the couples written and the variables.
 pub struct Trial {
@@ -29,20 +27,8 @@ pub struct Trial {
     pub variables: [u32; 16],
 }
 
-// What a run holds beside its state: the variables, for each port the place in the input from which its next word is looked for, and
-// how many words of the buffer are written.
-struct Hand {
-    variables: [u32; 16],
-    next: [usize; 4],
-    written: usize,
-}
-
-// What an edge needs: whether each port has the words that it reads, how many each has left behind it, and how many couples it writes.
-struct Need {
-    left: [usize; 4],
-    writes: usize,
-    enough: bool,
-}
+// What stands for a need that input does not meet: more couples than an edge can write.
+const LACKING: usize = 17;
 
 // A word taken from a port, and the place from which the port's next word is looked for.
 struct Word {
@@ -102,124 +88,98 @@ fn next_word(input: &[u32], port: u32, from: usize) -> Word
     Word { word: 0, next: at }
 }
 
-// The value of the expression at a start of the code area.
-fn worth(code: &[u32], start: u32, variables: &[u32; 16]) -> u32
-    ensures { λ r. ⌜ r ≡ value base (now (variables .entry)) (treeOf (readAt (now (code .entry)) start)) ⌝ }
-{
-    let at = start as usize;
-    if code.len() <= at {
-        return 0;
-    }
-    match expr::value(&code[at..], variables) {
-        Valued::Malformed => 0,
-        Valued::Value { word, used } => word,
-    }
-}
-
-// The kind of a test by its number in a state's record.
-fn kind_of(kind: u32) -> Kind
-    ensures { λ r. ⌜ r ≡ kindIs kind ⌝ }
-{
-    if kind == 2 {
-        return Kind::Equal;
-    }
-    if kind == 3 {
-        return Kind::SignedLess;
-    }
-    Kind::UnsignedLess
-}
-
 // The edge by which a state that is no stop is left at the variables.
 fn chosen(code: &[u32], state: StateRecord, variables: &[u32; 16]) -> u32
+    requires { ⌜ (2 ≤ state .kind → isParsed (readAt (now code) (state .left)) ≡ true) × (2 ≤ state .kind → isParsed (readAt (now code) (state .right)) ≡ true) ⌝ }
     ensures { λ r. ⌜ r ≡ chosenEdge (now (code .entry)) (now (variables .entry)) state ⌝ }
 {
     if state.kind < 2 {
         return state.on_true;
     }
-    let left = worth(code, state.left, variables);
-    let right = worth(code, state.right, variables);
-    if word::holds(kind_of(state.kind), left, right) {
+    let left = expr::worth(code, state.left, variables);
+    let right = expr::worth(code, state.right, variables);
+    if word::holds(word::kind_of(state.kind - 2), left, right) {
         return state.on_true;
     }
     state.on_false
 }
 
-// One action's need: a read takes a word of its port, a write counts a couple.
-fn spent(need: Need, kind: u32, port: u32) -> Need
-    requires { ⌜ (kind ≡ 1 → port < 4) × (need .writes < 16) ⌝ }
-    ensures { λ r. ⌜ r ≡ spendBy need kind port ⌝ }
+// One action's need: a read takes a word of its port, a write counts a couple. The answer is the couples so far, or that a word is lacking.
+fn spent(kind: u32, port: u32, left: &mut [usize; 4], writes: usize) -> usize
+    requires { ⌜ (kind ≡ 1 → port < 4) × (writes < 16) ⌝ }
+    ensures { λ r. ⌜ (r ≡ countOf (spendBy (needing (now (left .entry)) writes) kind port)) × (now (left .exit) ≡ spendBy (needing (now (left .entry)) writes) kind port .left) ⌝ }
 {
     if kind == 0 {
-        return need;
+        return writes;
     }
-    let mut after = need;
     if kind == 1 {
         let p = port as usize;
-        let left = need.left[p];
-        if left == 0 {
-            after.enough = false;
-            return after;
+        let words = left[p];
+        if words == 0 {
+            return LACKING;
         }
-        after.left[p] = left - 1;
-        return after;
+        left[p] = words - 1;
+        return writes;
     }
-    after.writes = need.writes + 1;
-    after
+    writes + 1
 }
 
-// What some actions need of the words that the ports have left.
-fn needs(table: &[u32], at: u32, first: u32, count: u32, left: [usize; 4]) -> Need
+// What some actions need: how many couples they write, or that a word is lacking. Of the words that the ports have left, those are taken
+// that the actions read.
+fn needs(table: &[u32], at: u32, first: u32, count: u32, left: &mut [usize; 4]) -> usize
     requires { ⌜ (tableFault (now table) ≡ sound) × (at ≡ word (now table) 7) × (first + count ≤ actions (now table)) × (count ≤ 16) ⌝ }
-    ensures { λ r. ⌜ r ≡ needOf left (map (actionAt (now (table .entry))) (upTo first count)) ⌝ }
+    ensures { λ r. ⌜ Needed (needOf (now (left .entry)) (map (actionAt (now (table .entry))) (upTo first count))) r (now (left .exit)) ⌝ }
 {
-    let mut need = Need {
-        left: left,
-        writes: 0,
-        enough: true,
-    };
+    let mut writes = 0;
     let mut i = first;
     let mut n = count;
     while 0 < n {
         let action = table::action(table, at, i);
-        need = spent(need, action.kind, action.a);
+        let so_far = spent(action.kind, action.a, left, writes);
+        if 16 < so_far {
+            return LACKING;
+        }
+        writes = so_far;
         i += 1;
         n -= 1;
     }
-    need
+    writes
 }
 
-// One action, with its expression on the variables before the edge.
+// One action, with its expression on the variables before the edge, where so many words of the buffer are written; the answer is how many
+// are then.
 fn act(
     code: &[u32],
     input: &[u32],
     action: ActionRecord,
     before: &[u32; 16],
-    hand: Hand,
+    variables: &mut [u32; 16],
+    next: &mut [usize; 4],
+    written: usize,
     out: &mut [u32],
-) -> Hand
-    requires { ⌜ (action .kind ≡ 0 → action .a < 16) × (1 ≤ action .kind → action .a < 4) × (action .kind ≡ 1 → action .b < 16) ⌝ }
-    requires { ⌜ hand .written + 2 * writesOf (actionOf (now code) (action .kind) (action .a) (action .b)) ≤ length (now out) ⌝ }
-    ensures { λ r. ⌜ heldOf (now (input .entry)) r (now (out .exit)) ≡ actH base (now (before .entry)) (actionOf (now (code .entry)) (action .kind) (action .a) (action .b)) (heldOf (now (input .entry)) hand (now (out .entry))) ⌝ }
+) -> usize
+    requires { ⌜ (action .kind ≡ 0 → action .a < 16) × (1 ≤ action .kind → action .a < 4) × (action .kind ≡ 1 → action .b < 16) × ((action .kind ≡ 1 → ⊥) → isParsed (readAt (now code) (action .b)) ≡ true) ⌝ }
+    requires { ⌜ length (now next) ≡ 4 ⌝ }
+    requires { ⌜ written + 2 * writesOf (actionOf (now code) (action .kind) (action .a) (action .b)) ≤ length (now out) ⌝ }
+    ensures { λ r. ⌜ heldOf (now (input .entry)) (hand (now (variables .exit)) (now (next .exit)) r) (now (out .exit)) ≡ actH base (now (before .entry)) (actionOf (now (code .entry)) (action .kind) (action .a) (action .b)) (heldOf (now (input .entry)) (hand (now (variables .entry)) (now (next .entry)) written) (now (out .entry))) ⌝ }
+    ensures { λ _. ⌜ length (now (next .exit)) ≡ 4 ⌝ }
 {
-    let mut after = hand;
     if action.kind == 0 {
         let variable = action.a as usize;
-        after.variables[variable] = worth(code, action.b, before);
-        return after;
+        variables[variable] = expr::worth(code, action.b, before);
+        return written;
     }
     if action.kind == 1 {
         let port = action.a as usize;
         let variable = action.b as usize;
-        let taken = next_word(input, action.a, hand.next[port]);
-        after.variables[variable] = taken.word;
-        after.next[port] = taken.next;
-        return after;
+        let taken = next_word(input, action.a, next[port]);
+        variables[variable] = taken.word;
+        next[port] = taken.next;
+        return written;
     }
-    let n = hand.written;
-    out[n] = action.a;
-    out[n + 1] = worth(code, action.b, before);
-    after.written = n + 2;
-    after
+    out[written] = action.a;
+    out[written + 1] = expr::worth(code, action.b, before);
+    written + 2
 }
 
 // The actions of an edge in listed order, each with its expression on the variables before the edge.
@@ -230,30 +190,36 @@ fn perform(
     input: &[u32],
     first: u32,
     count: u32,
-    hand: Hand,
+    variables: &mut [u32; 16],
+    next: &mut [usize; 4],
+    begun: usize,
     out: &mut [u32],
-) -> Hand
+) -> usize
     requires { ⌜ (tableFault (now table) ≡ sound) × (at ≡ word (now table) 7) × (now code ≡ codeArea (now table)) × (first + count ≤ actions (now table)) ⌝ }
-    requires { ⌜ hand .written + 2 * writesIn (map (actionAt (now table)) (upTo first count)) ≤ length (now out) ⌝ }
-    ensures { λ r. ⌜ heldOf (now (input .entry)) r (now (out .exit)) ≡ actAllH base (hand .variables) (map (actionAt (now (table .entry))) (upTo first count)) (heldOf (now (input .entry)) hand (now (out .entry))) ⌝ }
+    requires { ⌜ length (now next) ≡ 4 ⌝ }
+    requires { ⌜ begun + 2 * writesIn (map (actionAt (now table)) (upTo first count)) ≤ length (now out) ⌝ }
+    ensures { λ r. ⌜ heldOf (now (input .entry)) (hand (now (variables .exit)) (now (next .exit)) r) (now (out .exit)) ≡ actAllH base (now (variables .entry)) (map (actionAt (now (table .entry))) (upTo first count)) (heldOf (now (input .entry)) (hand (now (variables .entry)) (now (next .entry)) begun) (now (out .entry))) ⌝ }
+    ensures { λ _. ⌜ length (now (next .exit)) ≡ 4 ⌝ }
 {
-    let before = hand.variables;
-    let mut after = hand;
+    let before = *variables;
+    let mut written = begun;
     let mut i = first;
     let mut n = count;
     while 0 < n {
-        after = act(
+        written = act(
             code,
             input,
             table::action(table, at, i),
             &before,
-            after,
+            variables,
+            next,
+            written,
             out,
         );
         i += 1;
         n -= 1;
     }
-    after
+    written
 }
 
 // The answer of a refusal.
@@ -272,17 +238,16 @@ fn refused(number: u32, image: u32, at: u32) -> Trial
 }
 
 // The answer of a run that ended.
-fn ended(number: u32, state: u32, edges: u32, hand: Hand) -> Trial
-    ensures { λ r. ⌜ r ≡ endedOf number state edges hand ⌝ }
+fn ended(number: u32, state: u32, edges: u32, written: usize, variables: [u32; 16]) -> Trial
+    ensures { λ r. ⌜ r ≡ endedOf number state edges written variables ⌝ }
 {
-    let variables = hand.variables;
     Trial {
         number: number,
         image: 0,
         record: 0,
         state: state,
         edges: edges,
-        couples: hand.written / 2,
+        couples: written / 2,
         variables: variables,
     }
 }
@@ -296,47 +261,45 @@ fn walk(table: &[u32], input: &[u32], limit: u32, out: &mut [u32]) -> Trial
     let code = table::code_area(table);
     let edges_at = table::word_at(table, 5);
     let actions_at = table::word_at(table, 7);
-    let mut hand = Hand {
-        variables: [0u32; 16],
-        next: [0usize; 4],
-        written: 0,
-    };
+    let mut variables = [0u32; 16];
+    let mut next = [0usize; 4];
+    let mut written = 0;
     let mut left = given(input);
     let mut state = 0;
     let mut done = 0;
     while done < limit {
         let record = table::state(table, state);
         if record.kind == 0 {
-            return ended(20, state, done, hand);
+            return ended(20, state, done, written, variables);
         }
-        let variables = hand.variables;
         let edge = table::edge(table, edges_at, chosen(code, record, &variables));
-        let need = needs(table, actions_at, edge.first, edge.count, left);
-        if !need.enough {
-            return ended(22, state, done, hand);
+        let writes = needs(table, actions_at, edge.first, edge.count, &mut left);
+        if 16 < writes {
+            return ended(22, state, done, written, variables);
         }
-        if out.len() - hand.written < 2 * need.writes {
-            return ended(23, state, done, hand);
+        if out.len() - written < 2 * writes {
+            return ended(23, state, done, written, variables);
         }
-        hand = perform(
+        written = perform(
             table,
             actions_at,
             code,
             input,
             edge.first,
             edge.count,
-            hand,
+            &mut variables,
+            &mut next,
+            written,
             out,
         );
-        left = need.left;
         state = edge.target;
         done += 1;
     }
     let record = table::state(table, state);
     if record.kind == 0 {
-        return ended(20, state, done, hand);
+        return ended(20, state, done, written, variables);
     }
-    ended(21, state, done, hand)
+    ended(21, state, done, written, variables)
 }
 
 // The trial run: what is found in the table, then in the input, and else how the run ends; the couples are written to the front of the

@@ -24,7 +24,7 @@ use Rattle.table.specs.declared.ActionRecord.{ActionRecord}
 use Rattle.table.specs.declared.Offsets.{Offsets}
 use Rattle.table.specs.declared.Area.the-variants.{States, Actions, Edges}
 use Rattle.table.specs.declared.Set.the-variants.{Nothing, Variable}
-use Rattle.table.proofs.Decoding.{edge-words, action-words}
+use Rattle.table.proofs.Decoding.{from-two, edges-from, actions-from, edge-words, action-words}
 
 -- Where an area ends, from what was read.
 
@@ -87,12 +87,7 @@ module _ (e k l r t f : ℕ) where
 
   test-rules : 2 ≤ k → stateRules e k l r t f ≡ (lt (k - 2) 3 ∷ lt t e ∷ lt f e ∷ [])
   unfolding stateRules
-  test-rules h = choice k h
-    where
-      choice : (k : ℕ) → 2 ≤ k → stateRules e k l r t f ≡ (lt (k - 2) 3 ∷ lt t e ∷ lt f e ∷ [])
-      choice zero h = absurd (omega arith)
-      choice (suc zero) h = absurd (omega arith)
-      choice (suc (suc k)) h = let z : suc (suc k) - 2 ≡ k = omega arith in rw z
+  test-rules h = ap (λ n. stateRules e n l r t f) (from-two k h)
 
   pub test-refused : 2 ≤ k → (k ≤ 4 → t < e → f < e → ⊥) → false ≡ allKept (stateRules e k l r t f)
   test-refused h g =
@@ -113,9 +108,7 @@ plain-starts f (suc (suc k)) l r h = absurd (omega arith)
 
 test-starts : (f : ℕ → Fault) (k l r : ℕ) → 2 ≤ k → firstOf f (stateStarts k l r) ≡ (f l then f r)
 unfolding stateStarts firstOf
-test-starts f zero l r h = absurd (omega arith)
-test-starts f (suc zero) l r h = absurd (omega arith)
-test-starts f (suc (suc k)) l r h = ap (λ g. f l then g) (then-sound (f r))
+test-starts f k l r h = ap (λ n. firstOf f (stateStarts n l r)) (from-two k h) ∙ ap (λ g. f l then g) (then-sound (f r))
 
 -- What is found in a state, by its fields, where there are so many edges.
 abbrev pub StateFound : ℕ → List ℕ → ℕ → StateRecord → Fault
@@ -169,12 +162,7 @@ module _ (k a b : ℕ) where
 
   write-rules : 2 ≤ k → actionRules k a b ≡ (is (k - 2) 0 ∷ le a 3 ∷ [])
   unfolding actionRules
-  write-rules h = choice k h
-    where
-      choice : (k : ℕ) → 2 ≤ k → actionRules k a b ≡ (is (k - 2) 0 ∷ le a 3 ∷ [])
-      choice zero h = absurd (omega arith)
-      choice (suc zero) h = absurd (omega arith)
-      choice (suc (suc k)) h = let z : suc (suc k) - 2 ≡ k = omega arith in rw z
+  write-rules h = ap (λ n. actionRules n a b) (from-two k h)
 
   pub kind-refused : 2 < k → false ≡ allKept (actionRules k a b)
   kind-refused h =
@@ -250,12 +238,7 @@ module _ (code : List ℕ) (k a b : ℕ) {x : Action} (is-action : x ≡ actionO
 
   pub set-nothing : (k ≡ 0 → ⊥) → (k ≡ 1 → ⊥) → Nothing ≡ setOf x
   unfolding actionOf setOf
-  set-nothing y z = rw is-action (nothing k y z)
-    where
-      nothing : (k : ℕ) → (k ≡ 0 → ⊥) → (k ≡ 1 → ⊥) → Nothing ≡ setOf (actionOf code k a b)
-      nothing zero y z = absurd (y refl)
-      nothing (suc zero) y z = absurd (z refl)
-      nothing (suc (suc k)) y z = refl
+  set-nothing y z = rw (is-action, from-two k (omega arith))
 
 -- Edges.
 
@@ -312,56 +295,27 @@ module _ (image : List ℕ) (i s a : ℕ) (r : EdgeRecord) {b : Bool} {g : Fault
 
 -- The image.
 
+-- What is found along the three areas, by how many records each has.
+abbrev pub areasFault : List ℕ → ℕ → ℕ → ℕ → Fault
+areasFault image s a e =
+    firstOf (faultIn States image) (upTo 0 s)
+    then firstOf (faultIn Actions image) (upTo 0 a)
+    then firstOf (faultIn Edges image) (upTo 0 e)
+
 module _ (image : List ℕ) {b : Bool} (header : b ≡ allKept (headerRules image)) where
   pub header-refused : b ≡ false → Broken 1 0 ≡ checkedOf (tableFault image)
   unfolding tableFault numberOf
-  header-refused h =
-      refused wrongTable 0 (headerRules image)
-      (firstOf (stateFault image) (upTo 0 (states image))
-      then firstOf (actionFault image) (upTo 0 (actions image))
-      then firstOf (edgeFault image) (upTo 0 (edges image)))
-      header h
+  header-refused h = refused wrongTable 0 (headerRules image) _ header h
 
   -- The areas are where the header says.
   pub cut-out : {code : List ℕ} {o : Offsets} → b ≡ true → code ≡ codeArea image → o .edges ≡ word image 5 → o .actions ≡ word image 7 → Cut image code o
-  unfolding headerRules
   cut-out h q pe pa =
       let facts = facts-kept (headerRules image) header h in
-      record { codes = q; edges = pe ∙ facts .1 .1 .1 .1 .1 .1 .0; actions = pa ∙ facts .1 .1 .1 .1 .1 .1 .1 .1 .0 }
+      record { codes = q; edges = pe ∙ edges-from image facts; actions = pa ∙ actions-from image facts }
 
-  -- What is found along each area, with the count as it was read.
-  areas : {s a e : ℕ} → b ≡ true → s ≡ word image 2 → a ≡ word image 6 → e ≡ word image 4
-      → tableFault image
-      ≡ (firstOf (faultIn States image) (upTo 0 s)
-      then firstOf (faultIn Actions image) (upTo 0 a)
-      then firstOf (faultIn Edges image) (upTo 0 e))
+  -- What is found in the image is what is found along its areas, with the counts as they were read.
+  pub areas : {s a e : ℕ} → b ≡ true → s ≡ word image 2 → a ≡ word image 6 → e ≡ word image 4 → tableFault image ≡ areasFault image s a e
   unfolding tableFault faultIn states actions edges
-  areas {s} {a} {e} h ps pa pe =
-      passed wrongTable 0 (headerRules image)
-      (firstOf (stateFault image) (upTo 0 (states image))
-      then firstOf (actionFault image) (upTo 0 (actions image))
-      then firstOf (edgeFault image) (upTo 0 (edges image)))
-      header h
-      ∙ sym
-      (λ j. firstOf (stateFault image) (upTo 0 (ps j)) then firstOf (actionFault image) (upTo 0 (pa j)) then firstOf (edgeFault image) (upTo 0 (pe j)))
-
-  pub table-states : {s n j : ℕ} {c : Checked} → b ≡ true → s ≡ word image 2 → c ≡ checkedOf (firstOf (faultIn States image) (upTo 0 s)) → c ≡ Broken n j
-      → Broken n j ≡ checkedOf (tableFault image)
-  table-states {s} h ps e q =
-      first-broken (firstOf (faultIn States image) (upTo 0 s)) (firstOf (faultIn Actions image) (upTo 0 (word image 6)) then firstOf (faultIn Edges image) (upTo 0 (word image 4))) e q
-      ∙ sym (ap checkedOf (areas h ps refl refl))
-
-  pub table-actions : {s a n j : ℕ} {c d : Checked} → b ≡ true → s ≡ word image 2 → a ≡ word image 6 → c ≡ checkedOf (firstOf (faultIn States image) (upTo 0 s))
-      → c ≡ Sound → d ≡ checkedOf (firstOf (faultIn Actions image) (upTo 0 a)) → d ≡ Broken n j → Broken n j ≡ checkedOf (tableFault image)
-  table-actions {s} {a} h ps pa e q g u =
-      first-broken (firstOf (faultIn Actions image) (upTo 0 a)) (firstOf (faultIn Edges image) (upTo 0 (word image 4))) g u
-      ∙ sym (ap checkedOf (areas h ps pa refl ∙ first-sound (firstOf (faultIn States image) (upTo 0 s)) (firstOf (faultIn Actions image) (upTo 0 a) then firstOf (faultIn Edges image) (upTo 0 (word image 4))) e q))
-
-  pub table-edges : {s a w : ℕ} {c d r : Checked} → b ≡ true → s ≡ word image 2 → a ≡ word image 6 → w ≡ word image 4
-      → c ≡ checkedOf (firstOf (faultIn States image) (upTo 0 s)) → c ≡ Sound → d ≡ checkedOf (firstOf (faultIn Actions image) (upTo 0 a)) → d ≡ Sound
-      → r ≡ checkedOf (firstOf (faultIn Edges image) (upTo 0 w)) → r ≡ checkedOf (tableFault image)
-  table-edges {s} {a} {w} h ps pa pe e q g u v =
-      v
-      ∙ sym (ap checkedOf (areas h ps pa pe
-      ∙ first-sound (firstOf (faultIn States image) (upTo 0 s)) (firstOf (faultIn Actions image) (upTo 0 a) then firstOf (faultIn Edges image) (upTo 0 w)) e q
-      ∙ first-sound (firstOf (faultIn Actions image) (upTo 0 a)) (firstOf (faultIn Edges image) (upTo 0 w)) g u))
+  areas h ps pa pe =
+      passed wrongTable 0 (headerRules image) (areasFault image (word image 2) (word image 6) (word image 4)) header h
+      ∙ sym (λ j. areasFault image (ps j) (pa j) (pe j))

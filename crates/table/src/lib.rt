@@ -108,6 +108,15 @@ pub fn state(image: &[u32], i: u32) -> StateRecord
     ensures { λ r. ⌜ r ≡ stateRecord (now (image .entry)) i ⌝ }
 {
     let at = 10 + 5 * (i as usize);
+    if at + 4 < image.len() {
+        return StateRecord {
+            kind: image[at],
+            left: image[at + 1],
+            right: image[at + 2],
+            on_true: image[at + 3],
+            on_false: image[at + 4],
+        };
+    }
     StateRecord {
         kind: word_at(image, at),
         left: word_at(image, at + 1),
@@ -122,6 +131,13 @@ pub fn edge(image: &[u32], at: u32, i: u32) -> EdgeRecord
     ensures { λ r. ⌜ r ≡ edgeRecord (now (image .entry)) at i ⌝ }
 {
     let begin = (at as usize) + 3 * (i as usize);
+    if begin + 2 < image.len() {
+        return EdgeRecord {
+            target: image[begin],
+            first: image[begin + 1],
+            count: image[begin + 2],
+        };
+    }
     EdgeRecord {
         target: word_at(image, begin),
         first: word_at(image, begin + 1),
@@ -134,6 +150,13 @@ pub fn action(image: &[u32], at: u32, i: u32) -> ActionRecord
     ensures { λ r. ⌜ r ≡ actionRecord (now (image .entry)) at i ⌝ }
 {
     let begin = (at as usize) + 3 * (i as usize);
+    if begin + 2 < image.len() {
+        return ActionRecord {
+            kind: image[begin],
+            a: image[begin + 1],
+            b: image[begin + 2],
+        };
+    }
     ActionRecord {
         kind: word_at(image, begin),
         a: word_at(image, begin + 1),

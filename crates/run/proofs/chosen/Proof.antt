@@ -9,10 +9,10 @@ returns : tie.Need-returns
 returns c = chosen-only _ _ _ (c .if1 .taken)
 
 worth-requires : tie.Need-worth-requires
-worth-requires c κs = search needs
+worth-requires c κs = c .before .before .before .pre .0 (omega arith)
 
 worth-requires-2 : tie.Need-worth-requires-2
-worth-requires-2 c κs = search needs
+worth-requires-2 c κs = c .before .before .before .before .pre .1 (omega arith)
 
 kind-of-requires : tie.Need-kind-of-requires
 kind-of-requires c κs = search needs
@@ -21,10 +21,10 @@ holds-requires : tie.Need-holds-requires
 holds-requires c κs = search needs
 
 returns-2 : tie.Need-returns-2
-returns-2 c = chosen-true _ _ _ (omega arith) (c .before .before .kind-of .ensures) (c .before .before .before .before .worth .ensures) (c .before .before .before .worth2 .ensures) (c .before .holds .ensures) (c .if2 .taken)
+returns-2 c = chosen-true _ _ _ (omega arith) (c .before .before .kind-of .ensures) (c .before .before .before .before .before .worth .ensures) (c .before .before .before .before .worth2 .ensures) (c .before .holds .ensures) (c .if2 .taken)
 
 returns-3 : tie.Need-returns-3
-returns-3 c = chosen-false _ _ _ (omega arith) (c .before .before .kind-of .ensures) (c .before .before .before .before .worth .ensures) (c .before .before .before .worth2 .ensures) (c .before .holds .ensures) (c .if2 .left)
+returns-3 c = chosen-false _ _ _ (omega arith) (c .before .before .kind-of .ensures) (c .before .before .before .before .before .worth .ensures) (c .before .before .before .before .worth2 .ensures) (c .before .holds .ensures) (c .if2 .left)
 
 pub chosen-spec : {M : Type 1} → statement M
 chosen-spec =

@@ -1,6 +1,8 @@
 -- `table::check` is the model's finding of a table image. Assumes nothing.
+use mathlib.Core.Path.{refl}
 use borrow.Author.Tests.{not-true, not-false}
-use Rattle.table.proofs.Records.{header-refused, cut-out, table-states, table-actions, table-edges}
+use Rattle.fault.proofs.Rules.{first-of-three, second-of-three, third-of-three}
+use Rattle.table.proofs.Records.{header-refused, cut-out, areas}
 use borrow.Author.Needs.{needs}
 use Rattle.table.proofs.check.Statement.{statement}
 use Rattle.table.proofs.check.Tie as tie
@@ -51,13 +53,13 @@ check-area-requires-3 : tie.Need-check-area-requires-3
 check-area-requires-3 c κs = cut-out _ (c .before .before .before .before .before .before .before .before .before .before .before .before .before .header-fits .ensures) (not-false _ (c .before .before .before .before .before .before .before .before .before .before .before .before .if1 .left)) (c .before .before .before .before .before .before .before .before .before .before .before .code-area .ensures) (c .before .before .before .before .before .before .before .before .before .before .word-at .ensures) (c .before .before .before .before .before .before .before .before .before .word-at2 .ensures)
 
 returns-2 : tie.Need-returns-2
-returns-2 c = table-states _ (c .before .before .before .before .before .before .before .before .before .header-fits .ensures) (not-false _ (c .before .before .before .before .before .before .before .before .if1 .left)) (c .before .before .before .before .word-at3 .ensures) (c .before .before .before .check-area .ensures) (c .before .number .given .1)
+returns-2 c = first-of-three _ _ _ (areas _ (c .before .before .before .before .before .before .before .before .before .header-fits .ensures) (not-false _ (c .before .before .before .before .before .before .before .before .if1 .left)) (c .before .before .before .before .word-at3 .ensures) refl refl) (c .before .before .before .check-area .ensures) (c .before .number .given .1)
 
 returns-3 : tie.Need-returns-3
-returns-3 c = table-actions _ (c .before .before .before .before .before .before .before .before .before .before .before .before .before .header-fits .ensures) (not-false _ (c .before .before .before .before .before .before .before .before .before .before .before .before .if1 .left)) (c .before .before .before .before .before .before .before .before .word-at3 .ensures) (c .before .before .before .before .word-at4 .ensures) (c .before .before .before .before .before .before .before .check-area .ensures) (c .before .before .before .before .before .enum-told .given .1) (c .before .before .before .check-area2 .ensures) (c .before .number2 .given .1)
+returns-3 c = second-of-three _ _ _ (areas _ (c .before .before .before .before .before .before .before .before .before .before .before .before .before .header-fits .ensures) (not-false _ (c .before .before .before .before .before .before .before .before .before .before .before .before .if1 .left)) (c .before .before .before .before .before .before .before .before .word-at3 .ensures) (c .before .before .before .before .word-at4 .ensures) refl) (c .before .before .before .before .before .before .before .check-area .ensures) (c .before .before .before .before .before .enum-told .given .1) (c .before .before .before .check-area2 .ensures) (c .before .number2 .given .1)
 
 returns-4 : tie.Need-returns-4
-returns-4 c = table-edges _ (c .before .before .before .before .before .before .before .before .before .before .before .before .before .before .header-fits .ensures) (not-false _ (c .before .before .before .before .before .before .before .before .before .before .before .before .before .if1 .left)) (c .before .before .before .before .before .before .before .before .before .word-at3 .ensures) (c .before .before .before .before .before .word-at4 .ensures) (c .before .word-at5 .ensures) (c .before .before .before .before .before .before .before .before .check-area .ensures) (c .before .before .before .before .before .before .enum-told .given .1) (c .before .before .before .before .check-area2 .ensures) (c .before .before .enum-told2 .given .1) (c .check-area3 .ensures)
+returns-4 c = third-of-three _ _ _ (areas _ (c .before .before .before .before .before .before .before .before .before .before .before .before .before .before .header-fits .ensures) (not-false _ (c .before .before .before .before .before .before .before .before .before .before .before .before .before .if1 .left)) (c .before .before .before .before .before .before .before .before .before .word-at3 .ensures) (c .before .before .before .before .before .word-at4 .ensures) (c .before .word-at5 .ensures)) (c .before .before .before .before .before .before .before .before .check-area .ensures) (c .before .before .before .before .before .before .enum-told .given .1) (c .before .before .before .before .check-area2 .ensures) (c .before .before .enum-told2 .given .1) (c .check-area3 .ensures)
 
 pub check-spec : {M : Type 1} → statement M
 check-spec =

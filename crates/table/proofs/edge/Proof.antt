@@ -1,4 +1,6 @@
 -- `table::edge` has the words of an edge, one after another from where the edges begin. Assumes nothing.
+use mathlib.Core.Path.{refl}
+use Rattle.model.specs.Answer.{word}
 use borrow.Author.Needs.{needs}
 use Rattle.table.specs.Checks.{edgeRecord}
 use Rattle.table.proofs.edge.Statement.{statement}
@@ -9,6 +11,37 @@ mul-begin c = search needs
 
 add-begin : tie.Need-add-begin
 add-begin c = search needs
+
+add-if1 : tie.Need-add-if1
+add-if1 c = search needs
+
+mul-t9 : tie.Need-mul-t9
+mul-t9 c = search needs
+
+shared-slice-read-t11 : tie.Need-shared-slice-read-t11
+shared-slice-read-t11 c = search needs
+
+add-t12 : tie.Need-add-t12
+add-t12 c = search needs
+
+mul-t13 : tie.Need-mul-t13
+mul-t13 c = search needs
+
+shared-slice-read-t15 : tie.Need-shared-slice-read-t15
+shared-slice-read-t15 c = search needs
+
+add-t16 : tie.Need-add-t16
+add-t16 c = search needs
+
+mul-t17 : tie.Need-mul-t17
+mul-t17 c = search needs
+
+shared-slice-read-t19 : tie.Need-shared-slice-read-t19
+shared-slice-read-t19 c = search needs
+
+returns : tie.Need-returns
+unfolding edgeRecord word
+returns c = refl
 
 word-at-requires : tie.Need-word-at-requires
 word-at-requires c κs = search needs
@@ -25,9 +58,9 @@ add-word-at-2 c = search needs
 word-at-requires-3 : tie.Need-word-at-requires-3
 word-at-requires-3 c κs = search needs
 
-returns : tie.Need-returns
+returns-2 : tie.Need-returns-2
 unfolding edgeRecord
-returns c =
+returns-2 c =
     λ j. record {
       target = c .before .before .word-at .ensures j;
       first = c .before .word-at2 .ensures j;
@@ -40,9 +73,19 @@ edge-spec =
     (tie.spec
     mul-begin
     add-begin
+    add-if1
+    mul-t9
+    shared-slice-read-t11
+    add-t12
+    mul-t13
+    shared-slice-read-t15
+    add-t16
+    mul-t17
+    shared-slice-read-t19
+    returns
     word-at-requires
     add-word-at
     word-at-requires-2
     add-word-at-2
     word-at-requires-3
-    returns)
+    returns-2)
