@@ -6,7 +6,7 @@ use mathlib.Core.Bool.{Bool, true, false, _&&_}
 use mathlib.Core.List.{List, [], map}
 use native.Mathlib.Omega.{arith}
 use lib.Dec.{eqb}
-use lib.ListN.{length}
+use lib.ListN.{length, replicate}
 use Rattle.model.specs.Answer.{upTo, word}
 use Rattle.model.specs.Word.{base}
 use Rattle.model.specs.Table.{states, tableOf}
@@ -18,22 +18,33 @@ use Rattle.model.specs.Judgement.{startSide, firstSide, secondSide, judgePath, 
 use Rattle.fault.specs.Fault.{checkedOf}
 use Rattle.fault.specs.declared.Checked.{Checked}
 use Rattle.fault.specs.declared.Checked.the-variants.{Broken}
+use Rattle.sum.specs.declared.Size.{Size}
 use Rattle.sum.specs.declared.Size.the-variants.{Fits, TooLarge}
-use Rattle.env.specs.declared.Env.{Env}
 use Rattle.list.specs.Checks.{pathRecord, pairRecord}
 use Rattle.list.specs.declared.PathRecord.{PathRecord}
 use Rattle.list.specs.declared.PairRecord.{PairRecord}
 use Rattle.list.proofs.Decoding.{pair-decoded, path-decoded, links-begin, paths-begin, counts, SoundPath, SoundPair, sound-path, sound-pair}
 use Rattle.list.proofs.Linking.{Symbols, symbols-length, own-length, own-small, partners-small}
-use Rattle.side.specs.declared.Side.{Side}
-use Rattle.side.specs.declared.Followed.{Followed}
-use Rattle.side.specs.Parts.{conditionsOf, startAs}
-use Rattle.side.specs.Following.{followK, followedOf}
+use Rattle.side.specs.Parts.{Side, startAs}
+use Rattle.side.specs.Following.{followK, sizedAs}
 use Rattle.side.proofs.Paper.{StandsEnv, Stands}
 use Rattle.side.proofs.Joined.{follow-large, follow-fits, symbols-stand}
 use Rattle.rules.specs.Rules.{contradictsIn}
-use Rattle.judge.specs.Judging.{foundOf, sidesIn, Checks, OwnSymbols, PartnerSymbols, Walked}
+use Rattle.judge.specs.Judging.{foundOf, askedOf, sidesIn, Checks, OwnSymbols, PartnerSymbols, Walked}
 use Rattle.judge.proofs.Paths.{pathOf, marked-large, marked-found, astray, astray-second, first-large, second-large, both-found}
+
+-- The arrays in which a side is followed, of the lengths that it takes.
+pub record Arrays : Type 0 where
+  pub marks : List ℕ
+  pub sums : List ℕ
+  pub written : List ℕ
+  pub full-marks : length marks ≡ 64
+  pub full-sums : length sums ≡ 2112
+  pub full-written : length written ≡ 2112
+
+-- Arrays as they were lent, by what their lengths are.
+abbrev pub arrays : (m c w : List ℕ) → (length m ≡ 64) × ((length c ≡ 2112) × (length w ≡ 2112)) → Arrays
+arrays m c w h = record { marks = m; sums = c; written = w; full-marks = h .0; full-sums = h .1 .0; full-written = h .1 .1 }
 
 module _ (first second list : List ℕ) (checks : Checks first second list) (i : ℕ) (inside : i < pairs list) {p : PairRecord} (pe : p ≡ pairRecord list i) where
   -- The pair that the record holds.
@@ -55,13 +66,13 @@ module _ (first second list : List ℕ) (checks : Checks first second list) (i :
   pub pair-paths : pairAt list i .paths ≡ map (pathAt list) (upTo (p .path) (p .paths))
   pair-paths = ap (λ q. q .paths) pair-here
 
-  own-stands : (own : Env) → OwnSymbols own → StandsEnv (own .words) (map symbolSum (upTo 0 16))
-  own-stands own e = rw e (symbols-stand (upTo 0 16) own-length own-small)
+  own-stands : (own : List ℕ) → OwnSymbols own → StandsEnv own (map symbolSum (upTo 0 16))
+  own-stands own e = rw e (symbols-stand (upTo 0 16) (replicate 528 0) own-length refl own-small)
 
-  linked-stands : (linked : Env) → PartnerSymbols list i linked → StandsEnv (linked .words) (map symbolSum (map (partner (pairAt list i .links)) (upTo 0 16)))
+  linked-stands : (linked : List ℕ) → PartnerSymbols list i linked → StandsEnv linked (map symbolSum (map (partner (pairAt list i .links)) (upTo 0 16)))
   linked-stands linked e =
       rw (e, pair-links)
-      (symbols-stand (Symbols _) (symbols-length _) (partners-small (states first) (states second) list (checks .2) i pe inside))
+      (symbols-stand (Symbols _) (replicate 528 0) (symbols-length _) refl (partners-small (states first) (states second) list (checks .2) i pe inside))
 
   -- The sides at the start of its paths.
 
@@ -105,22 +116,27 @@ module _ (first second list : List ℕ) (checks : Checks first second list) (i :
     by-parts h = ap (λ q. checkedOf (judgePath base (tableOf first) (tableOf second) (pairAt list) (pairAt list i) q)) (sym (path-marked h))
 
     -- The first side.
-    module _ (own : Env) (oe : OwnSymbols own) {f : Followed} (fe : f ≡ followedOf (followK (tableOf first) bits (startAs (p .first) own))) where
-      one-large : f .size ≡ TooLarge → follow base (tableOf first) bits (firstSide (pairAt list i)) ≡ tooLarge
-      one-large h = rw first-side (follow-large first (p .first) (r .length) (r .choices) own _ (path-sound .short) (own-stands own oe) fe h)
+    module _ (own : List ℕ) (oe : OwnSymbols own) (w : Arrays) (z : Size) (f : Side)
+        (fe : sizedAs z f ≡ followK (tableOf first) bits (startAs (p .first) own (w .marks) (w .sums) (w .written))) where
+      one-large : z ≡ TooLarge → follow base (tableOf first) bits (firstSide (pairAt list i)) ≡ tooLarge
+      one-large h =
+          rw first-side
+          (follow-large first (p .first) (r .length) (r .choices) own (w .marks) (w .sums) (w .written) _ (path-sound .short) (own-stands own oe) (w .full-marks) (w .full-sums) (w .full-written) z f fe h)
 
-      one-fits : f .size ≡ Fits → (m : Model.Side) × (follow base (tableOf first) bits (firstSide (pairAt list i)) ≡ fits m) × Stands (f .side) m
-      one-fits h = rw first-side (follow-fits first (p .first) (r .length) (r .choices) own _ (path-sound .short) (own-stands own oe) fe h)
+      one-fits : z ≡ Fits → (m : Model.Side) × (follow base (tableOf first) bits (firstSide (pairAt list i)) ≡ fits m) × Stands f m
+      one-fits h =
+          rw first-side
+          (follow-fits first (p .first) (r .length) (r .choices) own (w .marks) (w .sums) (w .written) _ (path-sound .short) (own-stands own oe) (w .full-marks) (w .full-sums) (w .full-written) z f fe h)
 
       -- A marked path.
 
-      pub judged-large : pathAt list j .impossible ≡ true → f .size ≡ TooLarge → Broken 13 j ≡ Judged
+      pub judged-large : pathAt list j .impossible ≡ true → z ≡ TooLarge → Broken 13 j ≡ Judged
       judged-large h k = marked-large (tableOf first) (tableOf second) (pairAt list) (pairAt list i) j bits bits′ (r .target) (one-large k) ∙ by-parts h
 
-      pub judged-marked : pathAt list j .impossible ≡ true → f .size ≡ Fits → {b : Bool} {q : Checked} → b ≡ contradictsIn (conditionsOf (f .side .conditions)) → q ≡ foundOf b 15 j → q ≡ Judged
+      pub judged-marked : pathAt list j .impossible ≡ true → z ≡ Fits → {b : Bool} {q : Checked} → b ≡ contradictsIn (askedOf (f .conditions)) → q ≡ foundOf b 15 j → q ≡ Judged
       judged-marked h k c e =
           let (m, fit, stands) = one-fits k in
-          e ∙ marked-found (tableOf first) (tableOf second) (pairAt list) (pairAt list i) j bits bits′ (r .target) (f .side) m stands fit c ∙ by-parts h
+          e ∙ marked-found (tableOf first) (tableOf second) (pairAt list) (pairAt list i) j bits bits′ (r .target) f m stands fit c ∙ by-parts h
 
     -- The links of its target are few.
     pub target-room : {q : PairRecord} → q ≡ pairRecord list (r .target) → q .link + q .links < 2 ^ 32
@@ -154,28 +170,34 @@ module _ (first second list : List ℕ) (checks : Checks first second list) (i :
         judged-astray-second h k = astray-second (tableOf first) (tableOf second) (pairAt list) (pairAt list i) j bits bits′ (r .target) walks lead-one lead-other h k ∙ by-parts unmarked
 
         -- Its two sides.
-        module _ (ho : one ≡ true) (hs : other ≡ true) (own : Env) (we : OwnSymbols own) {f : Followed} (fe : f ≡ followedOf (followK (tableOf first) bits (startAs (p .first) own))) where
-          pub judged-first-large : f .size ≡ TooLarge → Broken 13 j ≡ Judged
+        module _ (ho : one ≡ true) (hs : other ≡ true) (own : List ℕ) (we : OwnSymbols own) (w : Arrays) (z : Size) (f : Side)
+            (fe : sizedAs z f ≡ followK (tableOf first) bits (startAs (p .first) own (w .marks) (w .sums) (w .written))) where
+          pub judged-first-large : z ≡ TooLarge → Broken 13 j ≡ Judged
           judged-first-large h =
-              first-large (tableOf first) (tableOf second) (pairAt list) (pairAt list i) j bits bits′ (r .target) walks lead-one lead-other ho hs (one-large own we fe h) ∙ by-parts unmarked
+              first-large (tableOf first) (tableOf second) (pairAt list) (pairAt list i) j bits bits′ (r .target) walks lead-one lead-other ho hs (one-large own we w z f fe h) ∙ by-parts unmarked
 
-          module _ (fits-one : f .size ≡ Fits) (linked : Env) (le : PartnerSymbols list i linked) {g : Followed} (ge : g ≡ followedOf (followK (tableOf second) bits′ (startAs (p .second) linked))) where
-            other-large : g .size ≡ TooLarge → follow base (tableOf second) bits′ (secondSide (pairAt list i)) ≡ tooLarge
-            other-large h = rw second-side (follow-large second (p .second) (r .«second_length») (r .«second_choices») linked _ (path-sound .short2) (linked-stands linked le) ge h)
+          module _ (fits-one : z ≡ Fits) (linked : List ℕ) (le : PartnerSymbols list i linked) (v : Arrays) (y : Size) (g : Side)
+              (ge : sizedAs y g ≡ followK (tableOf second) bits′ (startAs (p .second) linked (v .marks) (v .sums) (v .written))) where
+            other-large : y ≡ TooLarge → follow base (tableOf second) bits′ (secondSide (pairAt list i)) ≡ tooLarge
+            other-large h =
+                rw second-side
+                (follow-large second (p .second) (r .«second_length») (r .«second_choices») linked (v .marks) (v .sums) (v .written) _ (path-sound .short2) (linked-stands linked le) (v .full-marks) (v .full-sums) (v .full-written) y g ge h)
 
-            other-fits : g .size ≡ Fits → (m : Model.Side) × (follow base (tableOf second) bits′ (secondSide (pairAt list i)) ≡ fits m) × Stands (g .side) m
-            other-fits h = rw second-side (follow-fits second (p .second) (r .«second_length») (r .«second_choices») linked _ (path-sound .short2) (linked-stands linked le) ge h)
+            other-fits : y ≡ Fits → (m : Model.Side) × (follow base (tableOf second) bits′ (secondSide (pairAt list i)) ≡ fits m) × Stands g m
+            other-fits h =
+                rw second-side
+                (follow-fits second (p .second) (r .«second_length») (r .«second_choices») linked (v .marks) (v .sums) (v .written) _ (path-sound .short2) (linked-stands linked le) (v .full-marks) (v .full-sums) (v .full-written) y g ge h)
 
-            pub judged-second-large : g .size ≡ TooLarge → Broken 13 j ≡ Judged
+            pub judged-second-large : y ≡ TooLarge → Broken 13 j ≡ Judged
             judged-second-large h =
-                let (m, fit, stands) = one-fits own we fe fits-one in
+                let (m, fit, stands) = one-fits own we w z f fe fits-one in
                 second-large (tableOf first) (tableOf second) (pairAt list) (pairAt list i) j bits bits′ (r .target) walks lead-one lead-other ho hs fit (other-large h) ∙ by-parts unmarked
 
-            pub judged-both : g .size ≡ Fits → {from : ℕ} → from ≡ word list 5 → {z : Checked} → z ≡ checkedOf (sidesIn list from (q .link) (q .links) j (f .side) (g .side)) → z ≡ Judged
+            pub judged-both : y ≡ Fits → {from : ℕ} → from ≡ word list 5 → {k : Checked} → k ≡ checkedOf (sidesIn list from (q .link) (q .links) j f g) → k ≡ Judged
             judged-both h fr e =
-                let (m, fit, stands) = one-fits own we fe fits-one in
+                let (m, fit, stands) = one-fits own we w z f fe fits-one in
                 let (n, fit′, stands′) = other-fits h in
-                both-found (tableOf first) (tableOf second) (pairAt list) (pairAt list i) j bits bits′ (r .target) walks lead-one lead-other ho hs (f .side) (g .side) m n stands stands′ fit fit′ list (q .link) (q .links)
+                both-found (tableOf first) (tableOf second) (pairAt list) (pairAt list i) j bits bits′ (r .target) walks lead-one lead-other ho hs f g m n stands stands′ fit fit′ list (q .link) (q .links)
                 (fr ∙ links-begin (states first) (states second) list (checks .2))
                 (ap (λ z. z .links) goal)
                 e

@@ -15,13 +15,11 @@ use Rattle.model.proofs.Basics.{upTo-member}
 use Rattle.fault.specs.Fault.{checkedOf}
 use Rattle.fault.specs.declared.Checked.{Checked}
 use Rattle.fault.specs.declared.Checked.the-variants.{Broken}
-use Rattle.env.specs.Env.{symbolWords}
-use Rattle.env.specs.declared.Env.{Env}
 use Rattle.list.specs.Checks.{pairRecord}
 use Rattle.list.specs.declared.PairRecord.{PairRecord}
 use Rattle.list.proofs.Decoding.{links-begin, counts}
 use Rattle.cover.proofs.Reaching.{covered-walkable}
-use Rattle.judge.specs.Judging.{Checks, OwnSymbols, PartnerSymbols, Walked}
+use Rattle.judge.specs.Judging.{Checks, symbolWords, OwnSymbols, PartnerSymbols, Walked}
 use Rattle.judge.proofs.Findings.{test-broken, test-passed}
 use Rattle.judge.proofs.Decoded.{pair-sound, pair-first, pair-second, pair-links, pair-paths}
 
@@ -73,8 +71,8 @@ module _ (first second list : List ℕ) (checks : Checks first second list) (i :
       let most = counts (states first) (states second) list (checks .2) .1 .1 .0 in
       (e ∙ links-begin (states first) (states second) list (checks .2), omega arith)
 
-  pub linked-is : {symbols : List ℕ} (env : Env) → symbols ≡ map (partner (map (linkAt list) (upTo (p .link) (p .links)))) (upTo 0 16) → env .words ≡ symbolWords symbols → PartnerSymbols list i env
-  linked-is env e w = rw (pair-links first second list checks i inside pe) (w ∙ ap symbolWords e)
+  pub linked-is : {symbols words : List ℕ} → symbols ≡ map (partner (map (linkAt list) (upTo (p .link) (p .links)))) (upTo 0 16) → words ≡ symbolWords symbols → PartnerSymbols list i words
+  linked-is e w = rw (pair-links first second list checks i inside pe) (w ∙ ap symbolWords e)
 
   -- Rules 10 and 11.
   abbrev Found : Checked
@@ -109,8 +107,8 @@ pub pair-count : (list : List ℕ) (i : ℕ) {n : ℕ} → n ≡ word list 2 →
 unfolding pairs
 pair-count list i e h = rw (← e) h
 
-pub own-is : {symbols : List ℕ} (env : Env) → symbols ≡ upTo 0 16 → env .words ≡ symbolWords symbols → OwnSymbols env
-own-is env e w = w ∙ ap symbolWords e
+pub own-is : {symbols words : List ℕ} → symbols ≡ upTo 0 16 → words ≡ symbolWords symbols → OwnSymbols words
+own-is e w = w ∙ ap symbolWords e
 
 pub along-pairs : (first second list : List ℕ) {n : ℕ} → n ≡ word list 2
     → checkedOf (firstOf (judgePair base (tableOf first) (tableOf second) (pairAt list)) (upTo 0 n)) ≡ checkedOf (judgement base first second list)

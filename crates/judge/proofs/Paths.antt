@@ -16,12 +16,11 @@ use Rattle.model.specs.Judgement.{contradicts, firstSide, secondSide, whenFits,
 use Rattle.fault.specs.Fault.{checkedOf}
 use Rattle.fault.specs.declared.Checked.{Checked}
 use Rattle.fault.specs.declared.Checked.the-variants.{Broken}
-use Rattle.side.specs.declared.Side.{Side}
-use Rattle.side.specs.Parts.{conditionsOf}
+use Rattle.side.specs.Parts.{Side}
 use Rattle.side.proofs.Paper.{Stands}
 use Rattle.rules.specs.Rules.{contradictsIn}
 use Rattle.rules.proofs.Paper.{contradicts-paper}
-use Rattle.judge.specs.Judging.{foundOf, sidesIn}
+use Rattle.judge.specs.Judging.{foundOf, askedOf, sidesIn}
 use Rattle.judge.proofs.Findings.{test-broken, test-passed, test-last}
 use Rattle.judge.proofs.Sides.{one-few, sides-paper}
 
@@ -48,7 +47,7 @@ module _ (t u : Table) (pairOf : ℕ → Pair) (P : Pair) (j : ℕ) (bs cs : Lis
   unfolding judgePath whenFits checkedOf numberOf
   marked-large e = rw e refl
 
-  pub marked-found : (a : Side) (m : Model.Side) → Stands a m → First ≡ fits m → {b : Bool} → b ≡ contradictsIn (conditionsOf (a .conditions)) → foundOf b 15 j ≡ Found true
+  pub marked-found : (a : Side) (m : Model.Side) → Stands a m → First ≡ fits m → {b : Bool} → b ≡ contradictsIn (askedOf (a .conditions)) → foundOf b 15 j ≡ Found true
   unfolding judgePath whenFits judgeImpossible numberOf
   marked-found a m h e {b} c =
       let paper : b ≡ contradicts base (m .conditions) = c ∙ contradicts-paper _ _ (h .conditions) in

@@ -13,13 +13,12 @@ use Rattle.fault.specs.Fault.{checkedOf}
 use Rattle.fault.specs.declared.Checked.{Checked}
 use Rattle.fault.specs.declared.Checked.the-variants.{Broken}
 use Rattle.fault.proofs.Rules.{all-kept, passed}
-use Rattle.side.specs.declared.Side.{Side}
-use Rattle.side.specs.Parts.{conditionsOf}
+use Rattle.side.specs.Parts.{Side}
 use Rattle.side.proofs.Paper.{Stands}
 use Rattle.side.proofs.Joined.{conditions-few}
 use Rattle.rules.specs.Rules.{assuredIn, sameReadsIn, sameWritesIn, keepsAllIn}
 use Rattle.rules.proofs.Paper.{assured-paper, reads-paper, writes-paper, links-paper}
-use Rattle.judge.specs.Judging.{foundOf, sidesIn}
+use Rattle.judge.specs.Judging.{foundOf, askedOf, sidesIn}
 use Rattle.judge.proofs.Findings.{test-broken, test-passed, test-last}
 
 -- A side's tests are at most 32: rule 14 is kept.
@@ -42,7 +41,7 @@ module _ (list : List ℕ) (at i c j : ℕ) (a b : Side) where
   abbrev Found : Checked
   Found = checkedOf (sidesIn list at i c j a b)
 
-  module _ {x : Bool} (xe : x ≡ assuredIn (conditionsOf (a .conditions)) (conditionsOf (b .conditions))) where
+  module _ {x : Bool} (xe : x ≡ assuredIn (askedOf (a .conditions)) (askedOf (b .conditions))) where
     pub sides-assured : x ≡ false → Broken 16 j ≡ Found
     unfolding sidesIn numberOf
     sides-assured h = test-broken notAssured j _ (sym xe ∙ h)
@@ -59,10 +58,10 @@ module _ (list : List ℕ) (at i c j : ℕ) (a b : Side) where
             test-broken writesDiffer j _ (sym ze ∙ h)
             ∙ ap checkedOf (sym (test-passed notAssured j _ (sym xe ∙ xh) ∙ test-passed readsDiffer j _ (sym ye ∙ yh)))
 
-        pub sides-links : z ≡ true → {k : Bool} {q : Checked} → k ≡ keepsAllIn list at i c (a .held .env .words) (b .held .env .words) → q ≡ foundOf k 19 j → q ≡ Found
+        pub sides-links : z ≡ true → {k : Bool} {q : Checked} → k ≡ keepsAllIn list at i c (a .held .env) (b .held .env) → q ≡ foundOf k 19 j → q ≡ Found
         unfolding sidesIn numberOf
         sides-links zh ke e =
             e
             ∙ ap (λ k. foundOf k 19 j) ke
-            ∙ test-last linkNotKept j (keepsAllIn list at i c (a .held .env .words) (b .held .env .words))
+            ∙ test-last linkNotKept j (keepsAllIn list at i c (a .held .env) (b .held .env))
             ∙ ap checkedOf (sym (test-passed notAssured j _ (sym xe ∙ xh) ∙ test-passed readsDiffer j _ (sym ye ∙ yh) ∙ test-passed writesDiffer j _ (sym ze ∙ zh)))

@@ -5,20 +5,19 @@ ghost use mathlib.Core.Bool.{true, false, _&&_};
 ghost use mathlib.Core.List.{map};
 ghost use Prim.Native.Nat.{_+_, _<_, _≤_, _^_};
 ghost use lib.Dec.{eqb};
-ghost use Rattle.model.specs.Answer.{firstOf, upTo, word};
+ghost use Rattle.model.specs.Answer.{word};
 ghost use Rattle.model.specs.Word.{base};
 ghost use Rattle.model.specs.Table.{edgesAt, tableOf};
 ghost use Rattle.model.specs.Run.{isStop};
 ghost use Rattle.model.specs.Path.{choices as choicesOf, walkable, endState, rule11};
 ghost use Rattle.model.specs.Correspondence.{pairs, paths as pathCount, pathAt, pairAt};
-ghost use Rattle.model.specs.Judgement.{partner, judgePath, judgePair, judgement, verdict};
+ghost use Rattle.model.specs.Judgement.{judgement, verdict};
 ghost use Rattle.fault.specs.Fault.{checkedOf};
-ghost use Rattle.env.specs.Env.{symbolWords};
-ghost use Rattle.judge.specs.Judging.{partsOf, answerOf, foundOf, sidesIn, Checks, OwnSymbols, PartnerSymbols, Walked};
+ghost use Rattle.side.specs.Following.{sideOf};
+ghost use Rattle.judge.specs.Judging.{partsOf, answerOf, foundOf, sidesIn, pathFound, pathsFound, pairFound, Checks, OwnSymbols, PartnerSymbols, Walked};
 use cover::Reached;
-use env::Env;
 use fault::Checked;
-use side::Side;
+use side::Followed;
 use sum::Size;
 
 // The answer: a number, which image (1, 2 or 3 for the correspondence) and a record; acceptance is 0 0 0.
@@ -41,45 +40,59 @@ fn found(kept: bool, number: u32, at: u32) -> Checked
     }
 }
 
-// Rules 16 to 19 on the two sides of a path that leads to a pair with these links.
+// Rules 16 to 19 on the two sides of a path that leads to a pair with these links: what following each answered, and the environment,
+// the conditions' marks and sums and the written sums that it left.
 fn judge_sides(
     list: &[u32],
     at: u32,
     link: u32,
     links: u32,
     path: u32,
-    first: Side,
-    second: Side,
+    first: Followed,
+    first_env: &[u32; 528],
+    first_marks: &[u32; 64],
+    first_sums: &[u32; 2112],
+    first_written: &[u32; 2112],
+    second: Followed,
+    second_env: &[u32; 528],
+    second_marks: &[u32; 64],
+    second_sums: &[u32; 2112],
+    second_written: &[u32; 2112],
 ) -> Checked
     requires { ⌜ link + links < 2 ^ 32 ⌝ }
-    ensures { λ r. ⌜ r ≡ checkedOf (sidesIn (now (list .entry)) at link links path first second) ⌝ }
+    ensures { λ r. ⌜ r ≡ checkedOf (sidesIn (now (list .entry)) at link links path (sideOf first (now («first_env» .entry)) (now («first_marks» .entry)) (now («first_sums» .entry)) (now («first_written» .entry))) (sideOf second (now («second_env» .entry)) (now («second_marks» .entry)) (now («second_sums» .entry)) (now («second_written» .entry)))) ⌝ }
 {
-    if !rules::assured(first.conditions, second.conditions) {
+    if !rules::assured(
+        first.conditions,
+        first_marks,
+        first_sums,
+        second.conditions,
+        second_marks,
+        second_sums,
+    ) {
         return Checked::Broken {
             number: 16,
             record: path,
         };
     }
-    let one = first.held;
-    let other = second.held;
-    if !rules::same_reads(one.reads, other.reads) {
+    let reads = first.reads;
+    let other_reads = second.reads;
+    if !rules::same_reads(&reads, &other_reads) {
         return Checked::Broken {
             number: 17,
             record: path,
         };
     }
-    if !rules::same_writes(one.writes, other.writes) {
+    let writes = first.writes;
+    let other_writes = second.writes;
+    if !rules::same_writes(&writes, first_written, &other_writes, second_written) {
         return Checked::Broken {
             number: 18,
             record: path,
         };
     }
-    let one_env = one.env;
-    let other_env = other.env;
-    let one_words = one_env.words;
-    let other_words = other_env.words;
     found(
-        rules::keeps_links(list, at, link, links, &one_words, &other_words),
+        rules::keeps_links(list, at, link, links, first_env, second_env),
         19,
         path,
     )
@@ -96,44 +109,71 @@ fn leads(table: &[u32], state: u32, length: u32, choices: u32, target: u32) -> b
     }
 }
 
-// A path marked impossible, of pair i: rules 13 and 15 on its first side.
-fn judge_marked(first: &[u32], second: &[u32], list: &[u32], i: u32, path: u32, own: Env) -> Checked
+// A path marked impossible, of pair i: rules 13 and 15 on its first side, which is followed in the arrays lent.
+fn judge_marked(
+    first: &[u32],
+    second: &[u32],
+    list: &[u32],
+    i: u32,
+    path: u32,
+    own: &[u32; 528],
+    marks: &mut [u32; 64],
+    sums: &mut [u32; 2112],
+    written: &mut [u32; 2112],
+) -> Checked
     requires { ⌜ Checks (now first) (now second) (now list) ⌝ }
     requires { ⌜ (i < pairs (now list)) × (path < pathCount (now list)) × (pathAt (now list) path .impossible ≡ true) ⌝ }
-    requires { ⌜ OwnSymbols own ⌝ }
-    ensures { λ r. ⌜ r ≡ checkedOf (judgePath base (tableOf (now (first .entry))) (tableOf (now (second .entry))) (pairAt (now (list .entry))) (pairAt (now (list .entry)) i) (pathAt (now (list .entry)) path)) ⌝ }
+    requires { ⌜ OwnSymbols (now own) ⌝ }
+    ensures { λ r. ⌜ r ≡ pathFound (now (first .entry)) (now (second .entry)) (now (list .entry)) i path ⌝ }
 {
     let pair = list::pair(list, i);
     let record = list::path(list, table::word_at(list, 7), path);
-    let followed = side::follow(first, pair.first, record.length, record.choices, own);
+    let mut env = *own;
+    let followed = side::follow(
+        first,
+        pair.first,
+        record.length,
+        record.choices,
+        &mut env,
+        marks,
+        sums,
+        written,
+    );
     let size = followed.size;
     match size {
         Size::TooLarge => Checked::Broken {
             number: 13,
             record: path,
         },
-        Size::Fits => {
-            let side = followed.side;
-            found(rules::contradicts(side.conditions), 15, path)
-        }
+        Size::Fits => found(
+            rules::contradicts(followed.conditions, marks, sums),
+            15,
+            path,
+        ),
     }
 }
 
-// A path of pair i that is not marked: rules 12 and 13, then 16 to 19 on its two sides.
+// A path of pair i that is not marked: rules 12 and 13, then 16 to 19 on its two sides, which are followed in the arrays lent.
 fn judge_unmarked(
     first: &[u32],
     second: &[u32],
     list: &[u32],
     i: u32,
     path: u32,
-    own: Env,
-    linked: Env,
+    own: &[u32; 528],
+    linked: &[u32; 528],
+    marks: &mut [u32; 64],
+    sums: &mut [u32; 2112],
+    written: &mut [u32; 2112],
+    other_marks: &mut [u32; 64],
+    other_sums: &mut [u32; 2112],
+    other_written: &mut [u32; 2112],
 ) -> Checked
     requires { ⌜ Checks (now first) (now second) (now list) ⌝ }
     requires { ⌜ (i < pairs (now list)) × (path < pathCount (now list)) × (pathAt (now list) path .impossible ≡ false) ⌝ }
     requires { ⌜ Walked (now first) (now list) i path ⌝ }
-    requires { ⌜ OwnSymbols own × PartnerSymbols (now list) i linked ⌝ }
-    ensures { λ r. ⌜ r ≡ checkedOf (judgePath base (tableOf (now (first .entry))) (tableOf (now (second .entry))) (pairAt (now (list .entry))) (pairAt (now (list .entry)) i) (pathAt (now (list .entry)) path)) ⌝ }
+    requires { ⌜ OwnSymbols (now own) × PartnerSymbols (now list) i (now linked) ⌝ }
+    ensures { λ r. ⌜ r ≡ pathFound (now (first .entry)) (now (second .entry)) (now (list .entry)) i path ⌝ }
 {
     let pair = list::pair(list, i);
     let record = list::path(list, table::word_at(list, 7), path);
@@ -162,7 +202,17 @@ fn judge_unmarked(
             record: path,
         };
     }
-    let one = side::follow(first, pair.first, record.length, record.choices, own);
+    let mut env = *own;
+    let one = side::follow(
+        first,
+        pair.first,
+        record.length,
+        record.choices,
+        &mut env,
+        marks,
+        sums,
+        written,
+    );
     let one_size = one.size;
     match one_size {
         Size::TooLarge => Checked::Broken {
@@ -170,12 +220,16 @@ fn judge_unmarked(
             record: path,
         },
         Size::Fits => {
+            let mut other_env = *linked;
             let other = side::follow(
                 second,
                 pair.second,
                 record.second_length,
                 record.second_choices,
-                linked,
+                &mut other_env,
+                other_marks,
+                other_sums,
+                other_written,
             );
             let other_size = other.size;
             match other_size {
@@ -189,8 +243,16 @@ fn judge_unmarked(
                     target.link,
                     target.links,
                     path,
-                    one.side,
-                    other.side,
+                    one,
+                    &env,
+                    marks,
+                    sums,
+                    written,
+                    other,
+                    &other_env,
+                    other_marks,
+                    other_sums,
+                    other_written,
                 ),
             }
         }
@@ -204,37 +266,84 @@ fn judge_path(
     list: &[u32],
     i: u32,
     path: u32,
-    own: Env,
-    linked: Env,
+    own: &[u32; 528],
+    linked: &[u32; 528],
+    marks: &mut [u32; 64],
+    sums: &mut [u32; 2112],
+    written: &mut [u32; 2112],
+    other_marks: &mut [u32; 64],
+    other_sums: &mut [u32; 2112],
+    other_written: &mut [u32; 2112],
 ) -> Checked
     requires { ⌜ Checks (now first) (now second) (now list) ⌝ }
     requires { ⌜ (i < pairs (now list)) × (path < pathCount (now list)) ⌝ }
     requires { ⌜ Walked (now first) (now list) i path ⌝ }
-    requires { ⌜ OwnSymbols own × PartnerSymbols (now list) i linked ⌝ }
-    ensures { λ r. ⌜ r ≡ checkedOf (judgePath base (tableOf (now (first .entry))) (tableOf (now (second .entry))) (pairAt (now (list .entry))) (pairAt (now (list .entry)) i) (pathAt (now (list .entry)) path)) ⌝ }
+    requires { ⌜ OwnSymbols (now own) × PartnerSymbols (now list) i (now linked) ⌝ }
+    ensures { λ r. ⌜ r ≡ pathFound (now (first .entry)) (now (second .entry)) (now (list .entry)) i path ⌝ }
 {
     let record = list::path(list, table::word_at(list, 7), path);
     if record.mark == 1 {
-        return judge_marked(first, second, list, i, path, own);
+        return judge_marked(first, second, list, i, path, own, marks, sums, written);
     }
-    judge_unmarked(first, second, list, i, path, own, linked)
+    judge_unmarked(
+        first,
+        second,
+        list,
+        i,
+        path,
+        own,
+        linked,
+        marks,
+        sums,
+        written,
+        other_marks,
+        other_sums,
+        other_written,
+    )
 }
 
 // The paths of pair i in order, where rule 11 holds of it.
-fn judge_paths(first: &[u32], second: &[u32], list: &[u32], i: u32, own: Env) -> Checked
+fn judge_paths(
+    first: &[u32],
+    second: &[u32],
+    list: &[u32],
+    i: u32,
+    own: &[u32; 528],
+    marks: &mut [u32; 64],
+    sums: &mut [u32; 2112],
+    written: &mut [u32; 2112],
+    other_marks: &mut [u32; 64],
+    other_sums: &mut [u32; 2112],
+    other_written: &mut [u32; 2112],
+) -> Checked
     requires { ⌜ Checks (now first) (now second) (now list) ⌝ }
-    requires { ⌜ (i < pairs (now list)) × OwnSymbols own ⌝ }
+    requires { ⌜ (i < pairs (now list)) × OwnSymbols (now own) ⌝ }
     requires { ⌜ rule11 (tableOf (now first)) 32 (pairAt (now list) i .first) (map (λ p. p .first) (pairAt (now list) i .paths)) ≡ true ⌝ }
-    ensures { λ r. ⌜ r ≡ checkedOf (firstOf (judgePath base (tableOf (now (first .entry))) (tableOf (now (second .entry))) (pairAt (now (list .entry))) (pairAt (now (list .entry)) i)) (pairAt (now (list .entry)) i .paths)) ⌝ }
+    ensures { λ r. ⌜ r ≡ pathsFound (now (first .entry)) (now (second .entry)) (now (list .entry)) i ⌝ }
 {
     let pair = list::pair(list, i);
     let symbols = list::partners(list, table::word_at(list, 5), pair.link, pair.links);
-    let linked = env::symbols(&symbols);
+    let mut linked = [0u32; 528];
+    env::symbols(&symbols, &mut linked);
     let begin = pair.path;
     let n = pair.paths;
     let mut k = 0;
     while k < n {
-        match judge_path(first, second, list, i, begin + k, own, linked) {
+        match judge_path(
+            first,
+            second,
+            list,
+            i,
+            begin + k,
+            own,
+            &linked,
+            marks,
+            sums,
+            written,
+            other_marks,
+            other_sums,
+            other_written,
+        ) {
             Checked::Broken { number, record } => {
                 return Checked::Broken { number, record };
             }
@@ -254,10 +363,22 @@ fn stops(table: &[u32], state: u32) -> bool
 }
 
 // Pair i: rules 10 and 11, then its paths in order.
-fn judge_pair(first: &[u32], second: &[u32], list: &[u32], i: u32, own: Env) -> Checked
+fn judge_pair(
+    first: &[u32],
+    second: &[u32],
+    list: &[u32],
+    i: u32,
+    own: &[u32; 528],
+    marks: &mut [u32; 64],
+    sums: &mut [u32; 2112],
+    written: &mut [u32; 2112],
+    other_marks: &mut [u32; 64],
+    other_sums: &mut [u32; 2112],
+    other_written: &mut [u32; 2112],
+) -> Checked
     requires { ⌜ Checks (now first) (now second) (now list) ⌝ }
-    requires { ⌜ (i < pairs (now list)) × OwnSymbols own ⌝ }
-    ensures { λ r. ⌜ r ≡ checkedOf (judgePair base (tableOf (now (first .entry))) (tableOf (now (second .entry))) (pairAt (now (list .entry))) i) ⌝ }
+    requires { ⌜ (i < pairs (now list)) × OwnSymbols (now own) ⌝ }
+    ensures { λ r. ⌜ r ≡ pairFound (now (first .entry)) (now (second .entry)) (now (list .entry)) i ⌝ }
 {
     let pair = list::pair(list, i);
     let one = stops(first, pair.first);
@@ -274,26 +395,57 @@ fn judge_pair(first: &[u32], second: &[u32], list: &[u32], i: u32, own: Env) -> 
             record: i,
         };
     }
-    judge_paths(first, second, list, i, own)
+    judge_paths(
+        first,
+        second,
+        list,
+        i,
+        own,
+        marks,
+        sums,
+        written,
+        other_marks,
+        other_sums,
+        other_written,
+    )
 }
 
-// All pairs in order.
+// All pairs in order. The arrays in which the sides of a path are followed are made here, once, and lent to each path in turn.
 fn judge_pairs(first: &[u32], second: &[u32], list: &[u32]) -> Checked
     requires { ⌜ Checks (now first) (now second) (now list) ⌝ }
     ensures { λ r. ⌜ r ≡ checkedOf (judgement base (now (first .entry)) (now (second .entry)) (now (list .entry))) ⌝ }
 {
     let symbols = list::own_symbols();
-    let own = env::symbols(&symbols);
+    let mut own = [0u32; 528];
+    env::symbols(&symbols, &mut own);
+    let mut marks = [0u32; 64];
+    let mut sums = [0u32; 2112];
+    let mut written = [0u32; 2112];
+    let mut other_marks = [0u32; 64];
+    let mut other_sums = [0u32; 2112];
+    let mut other_written = [0u32; 2112];
     let n = table::word_at(list, 2);
-    let mut i = 0;
-    while i < n {
-        match judge_pair(first, second, list, i, own) {
+    let mut pair = 0;
+    while pair < n {
+        match judge_pair(
+            first,
+            second,
+            list,
+            pair,
+            &own,
+            &mut marks,
+            &mut sums,
+            &mut written,
+            &mut other_marks,
+            &mut other_sums,
+            &mut other_written,
+        ) {
             Checked::Broken { number, record } => {
                 return Checked::Broken { number, record };
             }
             Checked::Sound => {}
         }
-        i += 1;
+        pair += 1;
     }
     Checked::Sound
 }

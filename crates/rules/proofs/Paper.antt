@@ -1,5 +1,5 @@
--- The rules on the structs of the code are the paper's (`model`, Judgement), wherever a side stands for one of the paper (crate `side`,
--- proofs/Paper: Stands). Assumes nothing.
+-- The rules on sides as the code holds them are the paper's (`model`, Judgement), wherever a side stands for one of the paper (crate
+-- `side`, proofs/Paper: Stands). Assumes nothing.
 use Prim.Native.Nat.{ℕ, _<_}
 use mathlib.Core.Path.{_≡_, refl, sym, _∙_, ap}
 use mathlib.Core.Bool.{Bool, true, false, cond, not, _&&_, _||_, Bool·beq}
@@ -10,29 +10,27 @@ use lib.Dec.{eqb}
 use lib.ListN.{getD}
 use Rattle.model.specs.Word as Word
 use Rattle.model.specs.Word.{base, wrap}
-use Rattle.model.specs.Run.{reads, writes, eachPort}
+use Rattle.model.specs.Table.{kindOf}
+use Rattle.model.specs.Run.{eachPort}
 use Rattle.model.specs.Sum.{Sum, empty, same, sameSum}
 use Rattle.model.specs.Answer.{upTo}
 use Rattle.model.specs.Correspondence.{linksAt, linkAt}
 use Rattle.model.specs.Path.{isNone}
 use Rattle.model.specs.Path as Model
 use Rattle.model.specs.Judgement.{constantOf, sameKind, settledBy, settled, settledAs, isTrue, isFalse, sameTest, sameCondition, opposite, any, all, contradicts, assured, sameReads, sameWrites, keepsLinks}
-use Rattle.word.specs.Kinds.{kindOf}
 use Rattle.key.specs.Key.{Small, pack, packOn}
 use Rattle.key.proofs.Pack.{pack-same}
-use Rattle.sum.specs.Packed.{termsOf, sameK, packTerm, packSum}
+use Rattle.sum.specs.Packed.{sameK, packTerm, packSum}
 use Rattle.sum.proofs.Paper.{AllPack}
 use Rattle.sum.proofs.Keyed.{Keyed, same-keyed}
-use Rattle.expr.proofs.Paper.{keyed-at}
+use Rattle.expr.proofs.Paper.{AllKeyed, keyed-at}
 use Rattle.list.specs.Checks.{linkRecord}
 use Rattle.list.proofs.Decoding.{link-decoded}
-use Rattle.side.specs.declared.Condition.{Condition}
-use Rattle.side.specs.declared.Conditions.{Conditions}
-use Rattle.side.specs.declared.Side.{Side}
-use Rattle.side.specs.Parts.{kindAs, conditionAs, conditionsOf}
-use Rattle.side.proofs.Paper.{Good, AllGood, AllAsked, sumAs, conditionOf, StandsAsked, Stands}
-use Rattle.side.proofs.Joined.{conditions-read, sum-read, port-read, variable-read}
-use Rattle.rules.specs.Rules.{constantIn, settledIn, sameTestIn, likeIn, metIn, contradictsIn, assuredIn, sameReadsIn, samePortIn, sameWritesIn, keepsIn, keepsAllIn}
+use Rattle.side.specs.Parts.{Condition, Conditions, Side, kindNumber, conditionsOf}
+use Rattle.side.proofs.Paper.{AllAsked, conditionOf, StandsAsked, Stands}
+use Rattle.side.proofs.Joined.{conditions-read, port-read, variable-read}
+use Rattle.rules.specs.Rules.{constantIn, settledIn, sameTestIn, likeIn, metIn, contradictsIn, assuredIn, sameReadsIn, givenOn, sameWritesIn, keepsIn, keepsAllIn}
+use Rattle.rules.proofs.Searching.{all-through}
 
 -- What a condition comes to.
 
@@ -47,40 +45,44 @@ constant-paper [] h = refl
 constant-paper (t ∷ []) h = ap (λ b. cond b (some (wrap base (t .coefficient))) none) (none-packed (t .symbols) (h .0 .small))
 constant-paper (t ∷ u ∷ s) h = refl
 
-kind-paper : (k : Word.Kind) → kindOf (kindAs k) ≡ k
-unfolding kindOf kindAs
+-- A kind is the one of its number, and two kinds are the same where their numbers are.
+
+kind-paper : (k : Word.Kind) → kindOf (kindNumber k) ≡ k
+unfolding kindOf kindNumber
 kind-paper Word.equal = refl
 kind-paper Word.signedLess = refl
 kind-paper Word.unsignedLess = refl
 
-module _ (s : Sum) (g : Good s) where
-  constant-read : constantIn (termsOf (sumAs s)) ≡ constantOf base s
-  constant-read = ap constantIn (sum-read s g) ∙ constant-paper s (g .keyed)
+kinds-paper : (k l : Word.Kind) → eqb (kindNumber k) (kindNumber l) ≡ sameKind k l
+unfolding kindNumber sameKind Word.kindNumber
+kinds-paper Word.equal Word.equal = refl
+kinds-paper Word.equal Word.signedLess = refl
+kinds-paper Word.equal Word.unsignedLess = refl
+kinds-paper Word.signedLess Word.equal = refl
+kinds-paper Word.signedLess Word.signedLess = refl
+kinds-paper Word.signedLess Word.unsignedLess = refl
+kinds-paper Word.unsignedLess Word.equal = refl
+kinds-paper Word.unsignedLess Word.signedLess = refl
+kinds-paper Word.unsignedLess Word.unsignedLess = refl
 
-  same-read : (t : Sum) → Good t → sameK (termsOf (sumAs s)) (termsOf (sumAs t)) ≡ sameSum s t
-  same-read t h = (λ i. sameK (sum-read s g i) (sum-read t h i)) ∙ sym (same-keyed s t (g .keyed) (h .keyed))
+same-paper : (s t : Sum) → Keyed s → Keyed t → sameK (packSum pack s) (packSum pack t) ≡ sameSum s t
+same-paper s t h k = sym (same-keyed s t h k)
 
-pub settled-paper : (c : Model.Condition) → Good (c .left) → Good (c .right) → settledIn (conditionOf c) ≡ settled base c
-unfolding settledIn conditionOf conditionAs settled sumAs
+pub settled-paper : (c : Model.Condition) → Keyed (c .left) → Keyed (c .right) → settledIn (conditionOf c) ≡ settled base c
+unfolding settledIn conditionOf settled
 settled-paper c g h =
     λ i.
-    settledBy base (kind-paper (c .kind) i) (constant-read (c .left) g i) (constant-read (c .right) h i) (same-read (c .left) g (c .right) h i)
-
--- All members of a list that is made from numbers.
-all-through : {A : Type 0} (f : A → Bool) (h : ℕ → A) (g : ℕ → Bool) → ((j : ℕ) → g j ≡ f (h j)) → (l : List ℕ) → all g l ≡ all f (map h l)
-unfolding all
-all-through f h g e [] = refl
-all-through f h g e (j ∷ l) = λ i. e j i && all-through f h g e l i
+    settledBy base (kind-paper (c .kind) i) (constant-paper (c .left) g i) (constant-paper (c .right) h i) (same-paper (c .left) (c .right) g h i)
 
 -- Two conditions alike.
 
-like-paper : (c d : Model.Condition) (b : Bool) → Good (c .left) → Good (c .right) → Good (d .left) → Good (d .right)
+like-paper : (c d : Model.Condition) (b : Bool) → Keyed (c .left) → Keyed (c .right) → Keyed (d .left) → Keyed (d .right)
     → likeIn (conditionOf c) b (conditionOf d) ≡ (sameTest c d && Bool·beq b (d .taken))
-unfolding likeIn sameTestIn conditionOf conditionAs sameTest sumAs
+unfolding likeIn sameTestIn conditionOf sameTest
 like-paper c d b g h p q =
     λ i.
-    (sameKind (kind-paper (c .kind) i) (kind-paper (d .kind) i)
-    && (same-read (c .left) g (d .left) p i && same-read (c .right) h (d .right) q i))
+    (kinds-paper (c .kind) (d .kind) i
+    && (same-paper (c .left) (d .left) g p i && same-paper (c .right) (d .right) h q i))
     && Bool·beq b (d .taken)
 
 other-side : (a b : Bool) → Bool·beq (not a) b ≡ Bool·beq a (not b)
@@ -91,12 +93,12 @@ other-side false false = refl
 
 -- A test of some or all members, through the conditions that stand for the paper's.
 
-any-map : (f : Condition → Bool) (g : Model.Condition → Bool) (l : List Model.Condition) → AllAsked l → ((c : Model.Condition) → Good (c .left) → Good (c .right) → f (conditionOf c) ≡ g c) → any f (map conditionOf l) ≡ any g l
+any-map : (f : Condition → Bool) (g : Model.Condition → Bool) (l : List Model.Condition) → AllAsked l → ((c : Model.Condition) → Keyed (c .left) → Keyed (c .right) → f (conditionOf c) ≡ g c) → any f (map conditionOf l) ≡ any g l
 unfolding any AllAsked
 any-map f g [] h e = refl
 any-map f g (c ∷ l) h e = λ i. e c (h .0 .0) (h .0 .1) i || any-map f g l (h .1) e i
 
-all-map : (f : Condition → Bool) (g : Model.Condition → Bool) (l : List Model.Condition) → AllAsked l → ((c : Model.Condition) → Good (c .left) → Good (c .right) → f (conditionOf c) ≡ g c) → all f (map conditionOf l) ≡ all g l
+all-map : (f : Condition → Bool) (g : Model.Condition → Bool) (l : List Model.Condition) → AllAsked l → ((c : Model.Condition) → Keyed (c .left) → Keyed (c .right) → f (conditionOf c) ≡ g c) → all f (map conditionOf l) ≡ all g l
 unfolding all AllAsked
 all-map f g [] h e = refl
 all-map f g (c ∷ l) h e = λ i. e c (h .0 .0) (h .0 .1) i && all-map f g l (h .1) e i
@@ -114,13 +116,13 @@ any-or f g (a ∷ l) = ap (λ x. (f a || g a) || x) (any-or f g l) ∙ or-swap (
 
 -- Rule 15.
 contradicts-all : (cs : List Model.Condition) → AllAsked cs → contradictsIn (map conditionOf cs) ≡ contradicts base cs
-unfolding contradictsIn metIn contradicts isFalse opposite conditionOf conditionAs
+unfolding contradictsIn metIn contradicts isFalse opposite conditionOf
 contradicts-all cs h =
     any-map _ (λ c. settledAs (not (c .taken)) (settled base c) || any (λ d. sameTest c d && Bool·beq (c .taken) (not (d .taken))) cs) cs h
     (λ c g k. met c g k)
     ∙ any-or (λ c. settledAs (not (c .taken)) (settled base c)) (λ c. any (λ d. sameTest c d && Bool·beq (c .taken) (not (d .taken))) cs) cs
   where
-    met : (c : Model.Condition) → Good (c .left) → Good (c .right)
+    met : (c : Model.Condition) → Keyed (c .left) → Keyed (c .right)
         → (settledAs (not (c .taken)) (settledIn (conditionOf c)) || any (likeIn (conditionOf c) (not (c .taken))) (map conditionOf cs))
         ≡ (settledAs (not (c .taken)) (settled base c) || any (λ d. sameTest c d && Bool·beq (c .taken) (not (d .taken))) cs)
     met c g k =
@@ -132,10 +134,10 @@ contradicts-all cs h =
 
 -- Rule 16.
 assured-all : (cs ds : List Model.Condition) → AllAsked cs → AllAsked ds → assuredIn (map conditionOf cs) (map conditionOf ds) ≡ assured base cs ds
-unfolding assuredIn metIn assured isTrue sameCondition conditionOf conditionAs
+unfolding assuredIn metIn assured isTrue sameCondition conditionOf
 assured-all cs ds h k = all-map _ (λ d. settledAs (d .taken) (settled base d) || any (λ c. sameTest d c && Bool·beq (d .taken) (c .taken)) cs) ds k (λ d g r. met d g r)
   where
-    met : (d : Model.Condition) → Good (d .left) → Good (d .right)
+    met : (d : Model.Condition) → Keyed (d .left) → Keyed (d .right)
         → (settledAs (d .taken) (settledIn (conditionOf d)) || any (likeIn (conditionOf d) (d .taken)) (map conditionOf cs))
         ≡ (settledAs (d .taken) (settled base d) || any (λ c. sameTest d c && Bool·beq (d .taken) (c .taken)) cs)
     met d g r =
@@ -147,10 +149,11 @@ assured-all cs ds h k = all-map _ (λ d. settledAs (d .taken) (settled base d) |
 
 -- The rules on sides that stand for the paper's.
 
-pub contradicts-paper : (cs : Conditions) (l : List Model.Condition) → StandsAsked cs l → contradictsIn (conditionsOf cs) ≡ contradicts base l
+pub contradicts-paper : (cs : Conditions) (l : List Model.Condition) → StandsAsked cs l → contradictsIn (conditionsOf (cs .n) (cs .marks) (cs .sums)) ≡ contradicts base l
 contradicts-paper cs l h = ap contradictsIn (conditions-read cs l h) ∙ contradicts-all l (h .good)
 
-pub assured-paper : (cs ds : Conditions) (l m : List Model.Condition) → StandsAsked cs l → StandsAsked ds m → assuredIn (conditionsOf cs) (conditionsOf ds) ≡ assured base l m
+pub assured-paper : (cs ds : Conditions) (l m : List Model.Condition) → StandsAsked cs l → StandsAsked ds m
+    → assuredIn (conditionsOf (cs .n) (cs .marks) (cs .sums)) (conditionsOf (ds .n) (ds .marks) (ds .sums)) ≡ assured base l m
 assured-paper cs ds l m h k =
     (λ i. assuredIn (conditions-read cs l h i) (conditions-read ds m k i)) ∙ assured-all l m (h .good) (k .good)
 
@@ -159,12 +162,12 @@ each-same : (f g : ℕ → Bool) → ((p : ℕ) → p < 4 → f p ≡ g p) → e
 unfolding eachPort
 each-same f g h = λ i. h 0 (omega arith) i && (h 1 (omega arith) i && (h 2 (omega arith) i && h 3 (omega arith) i))
 
-same-sums : (l m : List Sum) → AllGood l → AllGood m → same sameK (map (packSum pack) l) (map (packSum pack) m) ≡ same sameSum l m
-unfolding same AllGood
+same-sums : (l m : List Sum) → AllKeyed l → AllKeyed m → same sameK (map (packSum pack) l) (map (packSum pack) m) ≡ same sameSum l m
+unfolding same AllKeyed
 same-sums [] [] h k = refl
 same-sums [] (t ∷ m) h k = refl
 same-sums (s ∷ l) [] h k = refl
-same-sums (s ∷ l) (t ∷ m) h k = λ i. sym (same-keyed s t (h .0 .keyed) (k .0 .keyed)) i && same-sums l m (h .1) (k .1) i
+same-sums (s ∷ l) (t ∷ m) h k = λ i. same-paper s t (h .0) (k .0) i && same-sums l m (h .1) (k .1) i
 
 module _ (a b : Side) (m n : Model.Side) (h : Stands a m) (k : Stands b n) where
   pub reads-paper : sameReadsIn (a .held .reads) (b .held .reads) ≡ sameReads m n
@@ -172,27 +175,27 @@ module _ (a b : Side) (m n : Model.Side) (h : Stands a m) (k : Stands b n) where
   reads-paper = each-same _ _ (λ p q i. eqb (h .held .counts p q i) (k .held .counts p q i))
 
   pub writes-paper : sameWritesIn (a .held .writes) (b .held .writes) ≡ sameWrites m n
-  unfolding sameWritesIn samePortIn sameWrites
+  unfolding sameWritesIn givenOn sameWrites
   writes-paper =
       each-same _ _
       (λ p q.
-      (λ i. same sameK (port-read _ _ (h .held .ports p q) i) (port-read _ _ (k .held .ports p q) i))
-      ∙ same-sums _ _ (h .held .ports p q .good) (k .held .ports p q .good))
+      (λ i. same sameK (port-read _ p _ (h .held .ports p q) i) (port-read _ p _ (k .held .ports p q) i))
+      ∙ same-sums _ _ (h .held .ports p q .keyed) (k .held .ports p q .keyed))
 
   -- One link.
-  pub keeps-paper : (v u : ℕ) → keepsIn (a .held .env .words) v (b .held .env .words) u ≡ sameSum (getD (m .environment) v empty) (getD (n .environment) u empty)
+  pub keeps-paper : (v u : ℕ) → keepsIn (a .held .env) v (b .held .env) u ≡ sameSum (getD (m .environment) v empty) (getD (n .environment) u empty)
   unfolding keepsIn
   keeps-paper v u =
       (λ i. sameK (variable-read _ _ v (h .held .variables) i) (variable-read _ _ u (k .held .variables) i))
-      ∙ sym (same-keyed _ _ (keyed-at (m .environment) v (h .held .variables .keyed)) (keyed-at (n .environment) u (k .held .variables .keyed)))
+      ∙ same-paper _ _ (keyed-at (m .environment) v (h .held .variables .keyed)) (keyed-at (n .environment) u (k .held .variables .keyed))
 
   -- Links.
   pub links-paper : (list : List ℕ) {at : ℕ} (i c : ℕ) → at ≡ linksAt list
-      → keepsAllIn list at i c (a .held .env .words) (b .held .env .words) ≡ keepsLinks (map (linkAt list) (upTo i c)) m n
+      → keepsAllIn list at i c (a .held .env) (b .held .env) ≡ keepsLinks (map (linkAt list) (upTo i c)) m n
   unfolding keepsAllIn keepsLinks
   links-paper list {at} i c e = all-through (λ l. sameSum (getD (m .environment) (l .first) empty) (getD (n .environment) (l .second) empty)) (linkAt list) _ kept (upTo i c)
     where
-      kept : (j : ℕ) → keepsIn (a .held .env .words) (linkRecord list at j .first) (b .held .env .words) (linkRecord list at j .second)
+      kept : (j : ℕ) → keepsIn (a .held .env) (linkRecord list at j .first) (b .held .env) (linkRecord list at j .second)
           ≡ sameSum (getD (m .environment) (linkAt list j .first) empty) (getD (n .environment) (linkAt list j .second) empty)
       kept j =
           keeps-paper (linkRecord list at j .first) (linkRecord list at j .second)

@@ -1,6 +1,6 @@
 -- The rules on the two sides of a path (01, rules 15 to 19; `model`, Judgement: settled, contradicts, assured, sameReads, sameWrites,
--- keepsLinks) on the structs of the code. proofs/Paper says that they are the paper's. Assumes nothing.
-use Prim.Native.Nat.{ℕ}
+-- keepsLinks) on the sides as the code holds them. proofs/Paper says that they are the paper's. Assumes nothing.
+use Prim.Native.Nat.{ℕ, min}
 use mathlib.Core.Bool.{Bool, cond, not, _&&_, _||_, Bool·beq}
 use mathlib.Core.List.{List, [], _∷_}
 use mathlib.Core.Option.{Option, none, some}
@@ -11,16 +11,12 @@ use Rattle.model.specs.Answer.{upTo}
 use Rattle.model.specs.Run.{eachPort}
 use Rattle.model.specs.Sum.{same}
 use Rattle.model.specs.Judgement.{sameKind, settledBy, settledAs, any, all}
-use Rattle.word.specs.Kinds.{kindOf}
+use Rattle.model.specs.Table.{kindOf}
 use Rattle.sum.specs.declared.Term.{Term}
-use Rattle.sum.specs.Packed.{termsOf, sameK}
+use Rattle.sum.specs.Packed.{sameK}
 use Rattle.env.specs.Env.{sumsOf}
 use Rattle.list.specs.Checks.{linkRecord}
-use Rattle.side.specs.declared.Condition.{Condition}
-use Rattle.side.specs.declared.Port.{Port}
-use Rattle.side.specs.declared.Reads.{Reads}
-use Rattle.side.specs.declared.Writes.{Writes}
-use Rattle.side.specs.Parts.{readsOn, portOn, sumsOn}
+use Rattle.side.specs.Parts.{Condition, Writes, countOn, writtenOn}
 use Rattle.rules.specs.declared.Settled.{Settled}
 use Rattle.rules.specs.declared.Settled.the-variants.{Open, Constant}
 use Rattle.rules.specs.declared.Whole.{Whole}
@@ -44,8 +40,7 @@ alikeIn k alike = cond alike (some (sameKind k equal)) none
 -- What a condition's test comes to whatever the words are.
 unfoldable pub settledIn : Condition → Option Bool
 settledIn c =
-    settledBy base (kindOf (c .kind)) (constantIn (termsOf (c .left))) (constantIn (termsOf (c .right)))
-    (sameK (termsOf (c .left)) (termsOf (c .right)))
+    settledBy base (kindOf (c .kind)) (constantIn (c .left)) (constantIn (c .right)) (sameK (c .left) (c .right))
 
 -- That, as the code answers it.
 unfoldable pub settledOf : Option Bool → Settled
@@ -54,9 +49,7 @@ settledOf (some b) = Constant b
 
 -- The same kind and sums.
 unfoldable pub sameTestIn : Condition → Condition → Bool
-sameTestIn c d =
-    sameKind (kindOf (c .kind)) (kindOf (d .kind))
-    && (sameK (termsOf (c .left)) (termsOf (d .left)) && sameK (termsOf (c .right)) (termsOf (d .right)))
+sameTestIn c d = eqb (c .kind) (d .kind) && (sameK (c .left) (d .left) && sameK (c .right) (d .right))
 
 -- The second has the first's kind and sums, and the given side taken.
 unfoldable pub likeIn : Condition → Bool → Condition → Bool
@@ -75,16 +68,16 @@ unfoldable pub assuredIn : List Condition → List Condition → Bool
 assuredIn cs ds = all (λ d. metIn cs d (d .taken)) ds
 
 -- Rule 17: the same number of reads on each port.
-unfoldable pub sameReadsIn : Reads → Reads → Bool
-sameReadsIn a b = eachPort (λ p. eqb (readsOn a p) (readsOn b p))
+unfoldable pub sameReadsIn : List ℕ → List ℕ → Bool
+sameReadsIn a b = eachPort (λ p. eqb (countOn a p) (countOn b p))
 
--- The same sums on a port, in order.
-unfoldable pub samePortIn : Port → Port → Bool
-samePortIn a b = same sameK (sumsOn a) (sumsOn b)
+-- The sums written to port p, in order; a count over 16 is read as 16.
+unfoldable pub givenOn : Writes → ℕ → List (List Term)
+givenOn w p = writtenOn (w .sums) p (min (countOn (w .counts) p) 16)
 
 -- Rule 18: the same sums written on each port, in order.
 unfoldable pub sameWritesIn : Writes → Writes → Bool
-sameWritesIn a b = eachPort (λ p. samePortIn (portOn a p) (portOn b p))
+sameWritesIn a b = eachPort (λ p. same sameK (givenOn a p) (givenOn b p))
 
 -- Rule 19, of one link: variable v of the first environment and variable u of the second have the same sum.
 unfoldable pub keepsIn : List ℕ → ℕ → List ℕ → ℕ → Bool

@@ -1,20 +1,19 @@
 // The rules on the two sides of a path: what a condition comes to whatever the words are, whether conditions contradict one another
 // (15), whether second conditions are assured (16), whether reads and writes are the same (17, 18), and whether links are kept (19).
-// Each contract is an equation with the definitions of specs/Rules. Assumes nothing.
+// Conditions and written sums are read where they are held. Each contract is an equation with the definitions of specs/Rules. Assumes
+// nothing.
 ghost use mathlib.Core.Path.{_≡_};
-ghost use Prim.Native.Nat.{_+_, _<_, _^_, min};
+ghost use Prim.Native.Nat.{_+_, _*_, _≤_, _<_, _^_, min};
+ghost use lib.Dec.{eqb};
+ghost use lib.ListN.{getD};
 ghost use Rattle.model.specs.Word.{base, wrap, equal};
+ghost use Rattle.model.specs.Sum.{same};
 ghost use Rattle.model.specs.Judgement.{sameKind, settledAs};
 ghost use Rattle.word.specs.Kinds.{kindOf};
-ghost use Rattle.sum.specs.Packed.{termsOf, sameK};
-ghost use Rattle.side.specs.Parts.{conditionsOf};
-ghost use Rattle.rules.specs.Rules.{constantIn, wholeOf, settledIn, settledOf, alikeIn, likeIn, metIn, contradictsIn, assuredIn, sameReadsIn, samePortIn, sameWritesIn, keepsIn, keepsAllIn};
-use side::Condition;
-use side::Conditions;
-use side::Port;
-use side::Reads;
-use side::Writes;
-use sum::Sum;
+ghost use Rattle.sum.specs.Packed.{sameK};
+ghost use Rattle.env.specs.Env.{sumAt};
+ghost use Rattle.side.specs.Parts.{conditionAt, conditionsOf, writtenOn, writesAs};
+ghost use Rattle.rules.specs.Rules.{constantIn, wholeOf, settledIn, settledOf, alikeIn, likeIn, metIn, contradictsIn, assuredIn, sameReadsIn, sameWritesIn, keepsIn, keepsAllIn};
 use word::Kind;
 
 // What a condition's test comes to: it is open, or constant.
@@ -36,23 +35,23 @@ fn word_of(coefficient: u32) -> u32
     coefficient
 }
 
-// The constant that a sum is.
-fn whole_of(s: Sum) -> Whole
-    ensures { λ r. ⌜ r ≡ wholeOf (constantIn (termsOf s)) ⌝ }
+// The constant that the sum in slot v is.
+fn whole_of(sums: &[u32; 2112], v: usize) -> Whole
+    requires { ⌜ v < 64 ⌝ }
+    ensures { λ r. ⌜ r ≡ wholeOf (constantIn (sumAt (now (sums .entry)) v)) ⌝ }
 {
-    let n = s.n;
+    let at = v * env::SPAN;
+    let n = sums[at];
     if n == 0 {
         return Whole::Word(0);
     }
     if n > 1 {
         return Whole::Varies;
     }
-    let terms = s.terms;
-    let t = terms[0];
-    if t.mono != 0 {
+    if sums[at + 2] != 0 {
         return Whole::Varies;
     }
-    Whole::Word(word_of(t.coef))
+    Whole::Word(word_of(sums[at + 1]))
 }
 
 // Whether a kind is equal.
@@ -67,106 +66,125 @@ fn is_equal(kind: Kind) -> bool
 }
 
 // What a test of sums comes to that are not both constants: equal is true and less false where both are the same sum.
-fn alike(kind: Kind, left: Sum, right: Sum) -> Settled
-    ensures { λ r. ⌜ r ≡ settledOf (alikeIn (kindOf kind) (sameK (termsOf left) (termsOf right))) ⌝ }
+fn alike(kind: Kind, same: bool) -> Settled
+    ensures { λ r. ⌜ r ≡ settledOf (alikeIn (kindOf kind) same) ⌝ }
 {
-    if left.same(right) {
+    if same {
         return Settled::Constant(is_equal(kind));
     }
     Settled::Open
 }
 
-// What a condition's test comes to whatever the words are.
-pub fn settle(c: Condition) -> Settled
-    ensures { λ r. ⌜ r ≡ settledOf (settledIn c) ⌝ }
+// What the test of condition i comes to whatever the words are.
+pub fn settle(marks: &[u32; 64], sums: &[u32; 2112], i: usize) -> Settled
+    requires { ⌜ i < 32 ⌝ }
+    ensures { λ r. ⌜ r ≡ settledOf (settledIn (conditionAt (now (marks .entry)) (now (sums .entry)) i)) ⌝ }
 {
-    let kind = c.kind;
-    let left = c.left;
-    let right = c.right;
-    match whole_of(left) {
-        Whole::Varies => alike(kind, left, right),
-        Whole::Word(a) => match whole_of(right) {
-            Whole::Varies => alike(kind, left, right),
+    let left = 2 * i;
+    let right = left + 1;
+    let kind = word::kind_of(marks[left]);
+    match whole_of(sums, left) {
+        Whole::Varies => alike(kind, env::same(sums, left, sums, right)),
+        Whole::Word(a) => match whole_of(sums, right) {
+            Whole::Varies => alike(kind, env::same(sums, left, sums, right)),
             Whole::Word(b) => Settled::Constant(word::holds(kind, a, b)),
         },
     }
 }
 
-// Whether a condition's test is constant on a side.
-fn is_constant(c: Condition, side: bool) -> bool
-    ensures { λ r. ⌜ r ≡ settledAs side (settledIn c) ⌝ }
+// Whether the test of condition i is constant on a side.
+fn is_constant(marks: &[u32; 64], sums: &[u32; 2112], i: usize, side: bool) -> bool
+    requires { ⌜ i < 32 ⌝ }
+    ensures { λ r. ⌜ r ≡ settledAs side (settledIn (conditionAt (now (marks .entry)) (now (sums .entry)) i)) ⌝ }
 {
-    match settle(c) {
+    match settle(marks, sums, i) {
         Settled::Open => false,
         Settled::Constant(found) => found == side,
     }
 }
 
-// Whether two kinds are the same.
-fn same_kind(a: Kind, b: Kind) -> bool
-    ensures { λ r. ⌜ r ≡ sameKind (kindOf a) (kindOf b) ⌝ }
+// The side that a condition took, by its mark.
+fn taken(marks: &[u32; 64], i: usize) -> bool
+    requires { ⌜ i < 32 ⌝ }
+    ensures { λ r. ⌜ r ≡ eqb (getD (now (marks .entry)) (2 * i + 1) 0) 1 ⌝ }
 {
-    match a {
-        Kind::Equal => is_equal(b),
-        Kind::SignedLess => match b {
-            Kind::Equal => false,
-            Kind::SignedLess => true,
-            Kind::UnsignedLess => false,
-        },
-        Kind::UnsignedLess => match b {
-            Kind::Equal => false,
-            Kind::SignedLess => false,
-            Kind::UnsignedLess => true,
-        },
-    }
+    marks[2 * i + 1] == 1
 }
 
-// Whether the second condition has the first's kind and sums, and the given side taken.
-fn is_like(c: Condition, side: bool, d: Condition) -> bool
-    ensures { λ r. ⌜ r ≡ likeIn c side d ⌝ }
+// Whether condition j of the others has condition i's kind and sums, and the given side taken.
+fn is_like(
+    marks: &[u32; 64],
+    sums: &[u32; 2112],
+    i: usize,
+    side: bool,
+    other_marks: &[u32; 64],
+    other_sums: &[u32; 2112],
+    j: usize,
+) -> bool
+    requires { ⌜ (i < 32) × (j < 32) ⌝ }
+    ensures { λ r. ⌜ r ≡ likeIn (conditionAt (now (marks .entry)) (now (sums .entry)) i) side (conditionAt (now («other_marks» .entry)) (now («other_sums» .entry)) j) ⌝ }
 {
-    let first = c.kind;
-    let second = d.kind;
-    if !same_kind(first, second) {
+    let left = 2 * i;
+    let other = 2 * j;
+    if marks[left] != other_marks[other] {
         return false;
     }
-    let left = c.left;
-    let other_left = d.left;
-    if !left.same(other_left) {
+    if !env::same(sums, left, other_sums, other) {
         return false;
     }
-    let right = c.right;
-    let other_right = d.right;
-    if !right.same(other_right) {
+    if !env::same(sums, left + 1, other_sums, other + 1) {
         return false;
     }
-    side == d.taken
+    side == taken(other_marks, j)
 }
 
 // The number of conditions that a count stands for.
 fn counted(n: usize) -> usize
     ensures { λ r. ⌜ r ≡ min n 32 ⌝ }
 {
-    if n < Conditions::LIMIT {
+    if n < side::CONDITIONS {
         n
     } else {
-        Conditions::LIMIT
+        side::CONDITIONS
     }
 }
 
-// Whether a condition's test is constant on a side, or stands among the conditions with that side taken.
-fn is_met(conditions: Conditions, c: Condition, side: bool) -> bool
-    ensures { λ r. ⌜ r ≡ metIn (conditionsOf conditions) c side ⌝ }
+// Whether the test of condition i is constant on a side, or stands among n others with that side taken.
+fn is_met(
+    n: usize,
+    other_marks: &[u32; 64],
+    other_sums: &[u32; 2112],
+    marks: &[u32; 64],
+    sums: &[u32; 2112],
+    i: usize,
+    side: bool,
+) -> bool
+    requires { ⌜ i < 32 ⌝ }
+    ensures { λ r. ⌜ r ≡ metIn (conditionsOf n (now («other_marks» .entry)) (now («other_sums» .entry))) (conditionAt (now (marks .entry)) (now (sums .entry)) i) side ⌝ }
 {
-    if is_constant(c, side) {
+    if is_constant(marks, sums, i, side) {
         return true;
     }
-    let n = counted(conditions.n);
-    let items = conditions.items;
+    let m = counted(n);
+    let mut j = 0;
+    while j < m {
+        if is_like(marks, sums, i, side, other_marks, other_sums, j) {
+            return true;
+        }
+        j += 1;
+    }
+    false
+}
+
+// Whether the test of some of n conditions is met on the side that is not taken: a false constant condition, or two opposites.
+pub fn contradicts(n: usize, marks: &[u32; 64], sums: &[u32; 2112]) -> bool
+    ensures { λ r. ⌜ r ≡ contradictsIn (conditionsOf n (now (marks .entry)) (now (sums .entry))) ⌝ }
+{
+    let m = counted(n);
     let mut i = 0;
-    while i < n {
-        let d = items[i];
-        if is_like(c, side, d) {
+    while i < m {
+        let side = !taken(marks, i);
+        if is_met(n, marks, sums, marks, sums, i, side) {
             return true;
         }
         i += 1;
@@ -174,35 +192,30 @@ fn is_met(conditions: Conditions, c: Condition, side: bool) -> bool
     false
 }
 
-// Whether some condition's test is met on the side that is not taken: a false constant condition, or two opposites.
-pub fn contradicts(conditions: Conditions) -> bool
-    ensures { λ r. ⌜ r ≡ contradictsIn (conditionsOf conditions) ⌝ }
+// Whether each of n second conditions is constant true or stands among the first's.
+pub fn assured(
+    first: usize,
+    first_marks: &[u32; 64],
+    first_sums: &[u32; 2112],
+    second: usize,
+    second_marks: &[u32; 64],
+    second_sums: &[u32; 2112],
+) -> bool
+    ensures { λ r. ⌜ r ≡ assuredIn (conditionsOf first (now («first_marks» .entry)) (now («first_sums» .entry))) (conditionsOf second (now («second_marks» .entry)) (now («second_sums» .entry))) ⌝ }
 {
-    let n = counted(conditions.n);
-    let items = conditions.items;
+    let m = counted(second);
     let mut i = 0;
-    while i < n {
-        let c = items[i];
-        let taken = c.taken;
-        if is_met(conditions, c, !taken) {
-            return true;
-        }
-        i += 1;
-    }
-    false
-}
-
-// Whether each second condition is constant true or stands among the first's.
-pub fn assured(first: Conditions, second: Conditions) -> bool
-    ensures { λ r. ⌜ r ≡ assuredIn (conditionsOf first) (conditionsOf second) ⌝ }
-{
-    let n = counted(second.n);
-    let items = second.items;
-    let mut i = 0;
-    while i < n {
-        let d = items[i];
-        let taken = d.taken;
-        if !is_met(first, d, taken) {
+    while i < m {
+        let side = taken(second_marks, i);
+        if !is_met(
+            first,
+            first_marks,
+            first_sums,
+            second_marks,
+            second_sums,
+            i,
+            side,
+        ) {
             return false;
         }
         i += 1;
@@ -211,12 +224,12 @@ pub fn assured(first: Conditions, second: Conditions) -> bool
 }
 
 // Whether the numbers of reads are the same on each port.
-pub fn same_reads(first: Reads, second: Reads) -> bool
-    ensures { λ r. ⌜ r ≡ sameReadsIn first second ⌝ }
+pub fn same_reads(first: &[usize; 4], second: &[usize; 4]) -> bool
+    ensures { λ r. ⌜ r ≡ sameReadsIn (now (first .entry)) (now (second .entry)) ⌝ }
 {
     let mut port = 0;
     while port < 4 {
-        if first.on(port) != second.on(port) {
+        if first[port] != second[port] {
             return false;
         }
         port += 1;
@@ -228,25 +241,22 @@ pub fn same_reads(first: Reads, second: Reads) -> bool
 fn held(n: usize) -> usize
     ensures { λ r. ⌜ r ≡ min n 16 ⌝ }
 {
-    if n < Writes::LIMIT { n } else { Writes::LIMIT }
+    if n < side::ON_A_PORT {
+        n
+    } else {
+        side::ON_A_PORT
+    }
 }
 
-// Whether the sums written to a port are the same, in order.
-fn same_port(first: Port, second: Port) -> bool
-    ensures { λ r. ⌜ r ≡ samePortIn first second ⌝ }
+// Whether the first n sums written to a port are the same, in order.
+fn same_port(first: &[u32; 2112], second: &[u32; 2112], port: usize, n: usize) -> bool
+    requires { ⌜ (port < 4) × (n ≤ 16) ⌝ }
+    ensures { λ r. ⌜ r ≡ same sameK (writtenOn (now (first .entry)) port n) (writtenOn (now (second .entry)) port n) ⌝ }
 {
-    let n = held(first.n);
-    let m = held(second.n);
-    if n != m {
-        return false;
-    }
-    let sums = first.sums;
-    let others = second.sums;
+    let at = 16 * port;
     let mut i = 0;
     while i < n {
-        let s = sums[i];
-        let t = others[i];
-        if !s.same(t) {
+        if !env::same(first, at + i, second, at + i) {
             return false;
         }
         i += 1;
@@ -255,16 +265,22 @@ fn same_port(first: Port, second: Port) -> bool
 }
 
 // Whether the sums written are the same on each port, in order.
-pub fn same_writes(first: Writes, second: Writes) -> bool
-    ensures { λ r. ⌜ r ≡ sameWritesIn first second ⌝ }
+pub fn same_writes(
+    counts: &[usize; 4],
+    sums: &[u32; 2112],
+    other_counts: &[usize; 4],
+    other_sums: &[u32; 2112],
+) -> bool
+    ensures { λ r. ⌜ r ≡ sameWritesIn (writesAs (now (counts .entry)) (now (sums .entry))) (writesAs (now («other_counts» .entry)) (now («other_sums» .entry))) ⌝ }
 {
-    let ports = first.ports;
-    let others = second.ports;
     let mut p = 0;
     while p < 4 {
-        let a = ports[p];
-        let b = others[p];
-        if !same_port(a, b) {
+        let n = held(counts[p]);
+        let m = held(other_counts[p]);
+        if n != m {
+            return false;
+        }
+        if !same_port(sums, other_sums, p, n) {
             return false;
         }
         p += 1;

@@ -1,75 +1,27 @@
 -- What the normal sum of an expression, the condition of a state and its edge are, by what was read. Assumes nothing.
-use Prim.Native.Nat.{ℕ, zero, suc, _-_, _≤_, _<_}
+use Prim.Native.Nat.{ℕ, zero, suc, _+_, _*_, _-_, _≤_, _<_}
 use mathlib.Core.Path.{_≡_, refl, sym, _∙_, ap}
 use mathlib.Core.Bool.{Bool, true, false}
-use mathlib.Core.List.{List, []}
+use mathlib.Core.List.{List}
 use native.Mathlib.Omega.{arith}
-use lib.ListN.{length}
-use Rattle.model.specs.Word.{base}
-use Rattle.model.specs.Expr.{Expr, Reading, malformed, parsed, readAt, treeOf}
+use lib.ListN.{length, getD, set, List·getD-eq-default}
+use Rattle.model.specs.Word.{base, Kind}
+use Rattle.model.specs.Expr.{Expr, readAt, treeOf}
 use Rattle.model.specs.Table.{kindOf}
-use Rattle.model.specs.Sum.{Outcome, tooLarge, fits, andThen}
-use Rattle.word.specs.declared.Kind.{Kind}
-use Rattle.word.specs.declared.Kind.the-variants.{Equal, SignedLess, UnsignedLess}
+use Rattle.model.specs.Sum.{Outcome, tooLarge, fits}
 use Rattle.sum.specs.declared.Term.{Term}
-use Rattle.sum.specs.declared.Sum.{Sum}
 use Rattle.sum.specs.declared.Added.{Added}
-use Rattle.sum.specs.declared.Size.{Size}
 use Rattle.sum.specs.declared.Size.the-variants as sizes
-use Rattle.sum.specs.Packed.{asSum, termsOf, addedOf}
-use Rattle.sum.proofs.Held.{terms-as, constant-zero}
-use Rattle.env.specs.Env.{sumsOf}
-use Rattle.expr.specs.declared.answers.Form.{Form}
-use Rattle.expr.specs.declared.answers.Form.the-variants.{Malformed, TooLarge, Fits}
-use Rattle.expr.specs.declared.answers.Normal.{Normal}
-use Rattle.expr.specs.Normals.{sumOfK, malformedForm, formed, normalOf}
-use Rattle.expr.proofs.Reading.{from, shown-from, shown-outside}
-use Rattle.expr.proofs.Normals.{Few, sum-few, few-sums}
+use Rattle.sum.specs.Packed.{termsOf, addedOf}
+use Rattle.sum.proofs.Held.{terms-as}
+use Rattle.env.specs.Env.{sumsOf, storedIn}
+use Rattle.env.proofs.Stored.{sums-few}
+use Rattle.expr.specs.declared.answers.Form.the-variants.{TooLarge, Fits}
+use Rattle.expr.proofs.Normals.{Few, sum-few}
 use Rattle.table.specs.declared.EdgeRecord.{EdgeRecord}
 use Rattle.table.specs.Checks.{edgeRecord}
-use Rattle.side.specs.declared.Conditions.{Conditions}
-use Rattle.side.specs.Parts.{kindAs, conditionAs, withCondition}
-use Rattle.side.specs.Following.{formedOn, askedBy, edgeBy}
-
--- The sum of an expression.
-
--- The size that a form says; malformed words stand for 0, which fits.
-abbrev pub sizeIn : Form → Size
-sizeIn Malformed = sizes.Fits
-sizeIn TooLarge = sizes.TooLarge
-sizeIn Fits = sizes.Fits
-
--- An answer as an operation's.
-answer : Normal → Added
-answer n = record { size = sizeIn (n .form); sum = n .sum }
-
-formed-answer : (n : ℕ) (o : Outcome (List Term)) → answer (formed n o) ≡ addedOf o
-unfolding answer formed addedOf
-formed-answer n tooLarge = refl
-formed-answer n (fits l) = refl
-
-reading-answer : (vs : List (List Term)) (p : Reading) → answer (normalOf vs p) ≡ addedOf (sumOfK base vs (treeOf p))
-unfolding answer normalOf malformedForm addedOf sumOfK treeOf
-reading-answer vs malformed = ap (λ l. addedOf (fits l)) (sym (constant-zero 0 refl))
-reading-answer vs (parsed e n) = formed-answer n (sumOfK base vs e)
-
-module _ (words code : List ℕ) (start : ℕ) where
-  -- A start outside the code words.
-  pub sum-outside : {s : Sum} → length code ≤ start → s ≡ asSum [] → _≡_ {A = Added} (record { size = sizes.Fits; sum = s }) (addedOf (formedOn words (treeOf (readAt code start))))
-  unfolding formedOn answer normalOf malformedForm
-  sum-outside h e =
-      (λ i. record { size = sizes.Fits; sum = e i })
-      ∙ reading-answer (sumsOf words) malformed
-      ∙ ap (λ p. addedOf (sumOfK base (sumsOf words) (treeOf p))) (sym (shown-outside start code h))
-
-  -- A start within, by the form of the answer.
-  pub sum-formed : {n : Normal} {f : Form} → n ≡ normalOf (sumsOf words) (readAt (from start code) 0) → n .form ≡ f → _≡_ {A = Added} (record { size = sizeIn f; sum = n .sum }) (addedOf (formedOn words (treeOf (readAt code start))))
-  unfolding formedOn answer
-  sum-formed {n} e h =
-      (λ i. record { size = sizeIn (sym h i); sum = n .sum })
-      ∙ ap answer e
-      ∙ reading-answer (sumsOf words) (readAt (from start code) 0)
-      ∙ ap (λ p. addedOf (sumOfK base (sumsOf words) (treeOf p))) (shown-from start code)
+use Rattle.side.specs.Parts.{Conditions, kindNumber, bitOf, withCondition, countOn, oneMore, withWrite, conditionsAs, writesAs}
+use Rattle.side.specs.Following.{Reached, whole, stuck, afterSum, formedOn, askedBy, edgeBy}
 
 -- What an operation's answer says of what it answers.
 
@@ -83,38 +35,29 @@ unfolding addedOf Few
 added-fits tooLarge k e h = absurd (let f = ap (λ (a : Added). a .size) (sym e) ∙ h in let z : _≡_ {A = ℕ} 0 1 = cc in omega arith)
 added-fits (fits l) k e h = ap fits (sym (ap (λ (a : Added). termsOf (a .sum)) e ∙ terms-as l k))
 
-pub added-sum : (o : Outcome (List Term)) {a : Added} → Few o → a ≡ addedOf o → asSum (termsOf (a .sum)) ≡ a .sum
-unfolding addedOf Few
-added-sum tooLarge k e =
-    let s = ap (λ (a : Added). a .sum) e in
-    ap (λ x. asSum (termsOf x)) s ∙ ap asSum (terms-as [] (omega arith)) ∙ sym s
-added-sum (fits l) k e =
-    let s = ap (λ (a : Added). a .sum) e in
-    ap (λ x. asSum (termsOf x)) s ∙ ap asSum (terms-as l k) ∙ sym s
-
 pub formed-few : (words : List ℕ) (e : Expr) → Few (formedOn words e)
 unfolding formedOn
-formed-few words e = sum-few (sumsOf words) (few-sums words) base e
+formed-few words e = sum-few (sumsOf words) (sums-few words) base e
 
--- The kind of a test.
+-- The number of a kind of test.
 
-pub kind-equal : (k : ℕ) → k < 3 → Equal ≡ kindAs (kindOf (k - 2))
-unfolding kindAs kindOf
-kind-equal k h =
+pub number-equal : (k : ℕ) → k < 3 → 0 ≡ kindNumber (kindOf (k - 2))
+unfolding kindNumber kindOf
+number-equal k h =
     let e : k - 2 ≡ 0 = omega arith in
     rw e
 
-pub kind-signed : (k : ℕ) → k ≡ 3 → SignedLess ≡ kindAs (kindOf (k - 2))
-unfolding kindAs kindOf
-kind-signed k h =
+pub number-signed : (k : ℕ) → k ≡ 3 → 1 ≡ kindNumber (kindOf (k - 2))
+unfolding kindNumber kindOf
+number-signed k h =
     let e : k - 2 ≡ 1 = omega arith in
     rw e
 
-pub kind-unsigned : (k : ℕ) → 3 ≤ k → (k ≡ 3 → ⊥) → UnsignedLess ≡ kindAs (kindOf (k - 2))
-unfolding kindAs kindOf
-kind-unsigned k h d = by (k - 2) (omega arith)
+pub number-unsigned : (k : ℕ) → 3 ≤ k → (k ≡ 3 → ⊥) → 2 ≡ kindNumber (kindOf (k - 2))
+unfolding kindNumber kindOf
+number-unsigned k h d = by (k - 2) (omega arith)
   where
-    by : (j : ℕ) → 2 ≤ j → UnsignedLess ≡ kindAs (kindOf j)
+    by : (j : ℕ) → 2 ≤ j → 2 ≡ kindNumber (kindOf j)
     by zero h = absurd (omega arith)
     by (suc zero) h = absurd (omega arith)
     by (suc (suc j)) h = refl
@@ -122,45 +65,72 @@ kind-unsigned k h d = by (k - 2) (omega arith)
 -- The condition of a state.
 
 module _ (code words : List ℕ) (kind l r : ℕ) (b : Bool) (cs : Conditions) where
-  pub ask-none : kind < 2 → fits cs ≡ askedBy code words kind l r b cs
+  pub ask-none : kind < 2 → whole cs ≡ askedBy code words kind l r b cs
   unfolding askedBy
   ask-none h = by kind h
     where
-      by : (k : ℕ) → k < 2 → fits cs ≡ askedBy code words k l r b cs
+      by : (k : ℕ) → k < 2 → whole cs ≡ askedBy code words k l r b cs
       by zero h = refl
       by (suc zero) h = refl
       by (suc (suc k)) h = absurd (omega arith)
 
-  -- A test asks for both sums.
-  test-asks : 2 ≤ kind → askedBy code words kind l r b cs ≡ andThen (formedOn words (treeOf (readAt code l))) (λ s. andThen (formedOn words (treeOf (readAt code r))) (λ t. fits (withCondition cs (conditionAs (kindOf (kind - 2)) s t b))))
-  unfolding askedBy
+  -- What a test of a kind asks for: both sums.
+  asks : Kind → Reached Conditions
+  asks k =
+      afterSum (formedOn words (treeOf (readAt code l))) cs
+      (λ s. afterSum (formedOn words (treeOf (readAt code r))) cs (λ t. whole (withCondition cs k s t b)))
+
+  test-asks : 2 ≤ kind → askedBy code words kind l r b cs ≡ asks (kindOf (kind - 2))
+  unfolding askedBy asks
   test-asks h = by kind h
     where
-      by : (k : ℕ) → 2 ≤ k → askedBy code words k l r b cs ≡ andThen (formedOn words (treeOf (readAt code l))) (λ s. andThen (formedOn words (treeOf (readAt code r))) (λ t. fits (withCondition cs (conditionAs (kindOf (k - 2)) s t b))))
+      by : (k : ℕ) → 2 ≤ k → askedBy code words k l r b cs ≡ asks (kindOf (k - 2))
       by zero h = absurd (omega arith)
       by (suc zero) h = absurd (omega arith)
       by (suc (suc k)) h =
           let e : k ≡ suc (suc k) - 2 = omega arith in
-          ap (λ j. andThen (formedOn words (treeOf (readAt code l))) (λ s. andThen (formedOn words (treeOf (readAt code r))) (λ t. fits (withCondition cs (conditionAs (kindOf j) s t b))))) e
+          ap (λ j. asks (kindOf j)) e
 
   module _ {x : Added} (first : x ≡ addedOf (formedOn words (treeOf (readAt code l)))) (test : 2 ≤ kind) where
-    pub ask-left : x .size ≡ sizes.TooLarge → tooLarge ≡ askedBy code words kind l r b cs
-    unfolding andThen
+    pub ask-left : x .size ≡ sizes.TooLarge → stuck cs ≡ askedBy code words kind l r b cs
+    unfolding asks afterSum
     ask-left h = sym (test-asks test ∙ rw (added-large _ first h) refl)
 
     module _ {y : Added} (second : y ≡ addedOf (formedOn words (treeOf (readAt code r)))) (fine : x .size ≡ sizes.Fits) where
-      pub ask-right : y .size ≡ sizes.TooLarge → tooLarge ≡ askedBy code words kind l r b cs
-      unfolding andThen
+      pub ask-right : y .size ≡ sizes.TooLarge → stuck cs ≡ askedBy code words kind l r b cs
+      unfolding asks afterSum
       ask-right h = sym (test-asks test ∙ rw (added-fits _ (formed-few words _) first fine, added-large _ second h) refl)
 
-      pub ask-both : {k : Kind} {c : Conditions} → y .size ≡ sizes.Fits → k ≡ kindAs (kindOf (kind - 2)) → c ≡ withCondition cs (record { kind = k; left = x .sum; right = y .sum; taken = b }) → fits c ≡ askedBy code words kind l r b cs
-      unfolding andThen conditionAs
-      ask-both h e d =
-          let p = added-sum _ (formed-few words _) first in
-          let q = added-sum _ (formed-few words _) second in
-          ap fits d
-          ∙ (λ i. fits (withCondition cs (record { kind = e i; left = sym p i; right = sym q i; taken = b })))
-          ∙ sym (test-asks test ∙ rw (added-fits _ (formed-few words _) first fine, added-fits _ (formed-few words _) second h) refl)
+      pub ask-both : {c : Conditions} → y .size ≡ sizes.Fits → c ≡ withCondition cs (kindOf (kind - 2)) (termsOf (x .sum)) (termsOf (y .sum)) b
+          → whole c ≡ askedBy code words kind l r b cs
+      unfolding asks afterSum
+      ask-both h d =
+          ap whole d ∙ sym (test-asks test ∙ rw (added-fits _ (formed-few words _) first fine, added-fits _ (formed-few words _) second h) refl)
+
+-- A condition noted and a sum given, by what was stored.
+
+pub noted : (n : ℕ) (marks sums : List ℕ) (k : Kind) (l r : List Term) (b : Bool) {x y : ℕ} {one two : List ℕ} → x ≡ kindNumber k → y ≡ bitOf b
+    → one ≡ storedIn sums (2 * n) l → two ≡ storedIn one (2 * n + 1) r
+    → conditionsAs (n + 1) (set (set marks (2 * n) x) (2 * n + 1) y) two ≡ withCondition (conditionsAs n marks sums) k l r b
+unfolding withCondition conditionsAs
+noted n marks sums k l r b ex ey e₁ e₂ =
+    λ i.
+    record {
+      n = n + 1;
+      marks = set (set marks (2 * n) (ex i)) (2 * n + 1) (ey i);
+      sums = (e₂ ∙ ap (λ s. storedIn s (2 * n + 1) r) e₁) i;
+    }
+
+pub given : (p : ℕ) (counts sums : List ℕ) (l : List Term) {one : List ℕ} → one ≡ storedIn sums (16 * p + getD counts p 0) l
+    → writesAs (set counts p (getD counts p 0 + 1)) one ≡ withWrite (writesAs counts sums) p l
+unfolding withWrite writesAs oneMore countOn
+given p counts sums l e = λ i. record { counts = set counts p (getD counts p 0 + 1); sums = e i }
+
+-- The number on a port.
+
+pub count-past : (counts : List ℕ) (p : ℕ) → length counts ≤ p → 0 ≡ countOn counts p
+unfolding countOn
+count-past counts p h = sym (List·getD-eq-default counts 0 {n = p} (omega arith))
 
 -- The edge of a state.
 

@@ -1,66 +1,52 @@
--- What the answer of `side::follow` says of the paper's side (`model`, Path: follow): too large exactly where that is, and else a side
+-- What the answer of `side::follow` says of the paper's side (`model`, Path: follow): stuck exactly where that is too large, and else a side
 -- that stands for it; what each part of such a side holds; and that an environment of symbols is the start of a path. Assumes nothing.
-use Prim.Native.Nat.{ℕ, zero, suc, _+_, _≤_, _<_}
+use Prim.Native.Nat.{ℕ, zero, suc, _+_, _≤_, _<_, min}
 use mathlib.Core.Path.{_≡_, refl, sym, _∙_, ap}
-use mathlib.Core.Bool.{Bool}
 use mathlib.Core.List.{List, [], _∷_, _++_, map}
 use native.Mathlib.Omega.{arith}
-use lib.ListN.{length, getD, take, replicate, length-map, List·getD-map}
+use lib.ListN.{length, getD, take, length-map, List·getD-map}
 use lib.Seq.{take-all, take-suc, take-suc-set}
+use Rattle.model.specs.Answer.{upTo}
 use Rattle.model.specs.Word.{base}
-use Rattle.model.specs.Table.{Table, tableOf}
-use Rattle.model.specs.Run.{reads, writes, edgeOn}
-use Rattle.model.specs.Sum.{Sum, Outcome, tooLarge, fits, empty, symbolSum}
+use Rattle.model.specs.Table.{tableOf}
+use Rattle.model.specs.Run.{reads, writes}
+use Rattle.model.specs.Sum.{Sum, tooLarge, fits, empty, symbolSum}
 use Rattle.model.specs.Path as Model
-use Rattle.model.specs.Path.{choices, endState, side, follow}
-use Rattle.model.proofs.Basics.{andThen-fits, fits-same}
+use Rattle.model.specs.Path.{choices, side, follow}
+use Rattle.model.proofs.Accepted.{length-choices}
 use Rattle.key.specs.Key.{Small, pack, symbolOf}
 use Rattle.sum.specs.declared.Term.{Term}
+use Rattle.sum.specs.declared.Size.{Size}
 use Rattle.sum.specs.declared.Size.the-variants.{Fits, TooLarge}
-use Rattle.sum.specs.Packed.{termsOf, asSum, symbolK, packSum}
-use Rattle.sum.proofs.Keyed.{held-terms}
-use Rattle.env.specs.declared.Env.{Env}
-use Rattle.env.specs.Env.{sumsOf, storedIn, symbolsFrom, symbolWords}
+use Rattle.sum.specs.Packed.{symbolK, packSum}
+use Rattle.env.specs.Env.{sumsOf, withVariable, symbolsFrom}
 use Rattle.env.proofs.Reading.{length-sums}
-use Rattle.env.proofs.Stored.{length-stored, sums-stored}
+use Rattle.env.proofs.Stored.{length-with, sums-with}
 use Rattle.expr.proofs.Paper.{AllKeyed}
-use Rattle.side.specs.declared.Conditions.{Conditions}
-use Rattle.side.specs.declared.Port.{Port}
-use Rattle.side.specs.declared.Side.{Side}
-use Rattle.side.specs.declared.Followed.{Followed}
-use Rattle.side.specs.Parts.{noConditions, blankCondition, conditionsOf, noReads, readsOn, noWrites, blankPort, portOn, sumsOn, startAs, sideAs, heldAs}
-use Rattle.side.specs.Following.{actionsK, askedK, followK, followedOf}
+use Rattle.side.specs.Parts.{Conditions, Writes, Side, conditionsOf, countOn, writtenOn, conditionsAs, writesAs, heldAs, sideAs, startAs}
+use Rattle.side.specs.Following.{Reached, whole, stuck, followK, sizedAs}
 use Rattle.side.proofs.Moving.{one-symbol}
-use Rattle.side.proofs.Lists.{counted-none, counted-read, Both, both-large, both-fits}
-use Rattle.side.proofs.Paper.{Good, AllGood, AllAsked, sumAs, conditionOf, StandsPort, StandsEnv, StandsAsked, Stands, symbol-packs, follow-stands}
+use Rattle.side.proofs.Lists.{Both, both-large, both-fits}
+use Rattle.side.proofs.Paper.{AllAsked, conditionOf, StandsPort, StandsEnv, StandsAsked, Stands, symbol-packs, follow-stands}
 
 -- What the parts of a side hold.
 
 -- The conditions, in order.
-pub conditions-read : (cs : Conditions) (l : List Model.Condition) → StandsAsked cs l → conditionsOf cs ≡ map conditionOf l
+pub conditions-read : (cs : Conditions) (l : List Model.Condition) → StandsAsked cs l → conditionsOf (cs .n) (cs .marks) (cs .sums) ≡ map conditionOf l
 unfolding conditionsOf
-conditions-read cs l h = counted-read 32 (cs .n) (cs .items) (map conditionOf l) (h .holds)
+conditions-read cs l h =
+    let e : min (cs .n) 32 ≡ cs .n = omega (arith, h .few) in
+    rw e (h .same)
 
 -- There are at most 32, so rule 14 is never broken.
 pub conditions-few : (cs : Conditions) (l : List Model.Condition) → StandsAsked cs l → length l ≤ 32
-conditions-few cs l h =
-    let e : cs .n ≡ length l = h .holds .count ∙ length-map l conditionOf in
-    omega (arith, h .holds .few)
-
--- A struct that holds a packed sum gives it back.
-pub sum-read : (s : Sum) → Good s → termsOf (sumAs s) ≡ packSum pack s
-unfolding sumAs
-sum-read s g = held-terms s (g .few)
-
-sums-back : (l : List Sum) → AllGood l → map termsOf (map sumAs l) ≡ map (packSum pack) l
-unfolding AllGood
-sums-back [] h = refl
-sums-back (s ∷ l) h = λ i. sum-read s (h .0) i ∷ sums-back l (h .1) i
+conditions-few cs l h = omega (arith, h .count, h .few)
 
 -- The sums written to a port, in order.
-pub port-read : (port : Port) (l : List Sum) → StandsPort port l → sumsOn port ≡ map (packSum pack) l
-unfolding sumsOn
-port-read port l h = ap (map termsOf) (counted-read 16 (port .n) (port .sums) (map sumAs l) (h .holds)) ∙ sums-back l (h .good)
+pub port-read : (w : Writes) (p : ℕ) (l : List Sum) → StandsPort w p l → writtenOn (w .sums) p (min (countOn (w .counts) p) 16) ≡ map (packSum pack) l
+port-read w p l h =
+    let e : min (countOn (w .counts) p) 16 ≡ countOn (w .counts) p = omega (arith, h .few) in
+    rw e (h .same)
 
 -- The sum of a variable.
 pub variable-read : (words : List ℕ) (env : List Sum) (v : ℕ) → StandsEnv words env → getD (sumsOf words) v [] ≡ packSum pack (getD env v empty)
@@ -69,93 +55,64 @@ variable-read words env v h = ap (λ l. getD l v []) (h .sums) ∙ List·getD-ma
 
 -- The start of a path.
 
-no-port : (p : ℕ) → p < 4 → portOn noWrites p ≡ blankPort
-unfolding portOn noWrites
-no-port zero h = refl
-no-port (suc zero) h = refl
-no-port (suc (suc zero)) h = refl
-no-port (suc (suc (suc zero))) h = refl
-no-port (suc (suc (suc (suc p)))) h = absurd (omega arith)
+none-yet : (p : ℕ) → p < 4 → countOn (0 ∷ 0 ∷ 0 ∷ 0 ∷ []) p ≡ 0
+unfolding countOn
+none-yet zero h = refl
+none-yet (suc zero) h = refl
+none-yet (suc (suc zero)) h = refl
+none-yet (suc (suc (suc zero))) h = refl
+none-yet (suc (suc (suc (suc p)))) h = absurd (omega arith)
 
-no-reads : (p : ℕ) → p < 4 → readsOn noReads p ≡ 0
-unfolding readsOn noReads
-no-reads zero h = refl
-no-reads (suc zero) h = refl
-no-reads (suc (suc zero)) h = refl
-no-reads (suc (suc (suc zero))) h = refl
-no-reads (suc (suc (suc (suc p)))) h = absurd (omega arith)
-
-blank-port : StandsPort blankPort []
-unfolding blankPort AllGood
-blank-port = record { holds = counted-none 16 (asSum []); good = tt }
-
-no-conditions : StandsAsked noConditions []
-unfolding noConditions AllAsked
-no-conditions = record { holds = counted-none 32 blankCondition; good = tt }
+empty-port : (sums : List ℕ) (p : ℕ) → p < 4 → StandsPort (writesAs (0 ∷ 0 ∷ 0 ∷ 0 ∷ []) sums) p []
+unfolding writesAs writtenOn upTo AllKeyed
+empty-port sums p h =
+    let e : countOn (0 ∷ 0 ∷ 0 ∷ 0 ∷ []) p ≡ 0 = none-yet p h in
+    record { count = e; few = omega arith; same = rw e refl; keyed = tt }
 
 -- A side with nothing on it stands for the paper's side with nothing on it.
-pub start-stands : (s : ℕ) (env : Env) (sums : List Sum) → StandsEnv (env .words) sums → Stands (startAs s env) (side s sums [] [])
-unfolding startAs sideAs heldAs side reads writes noReads noWrites
-start-stands s env sums h =
+pub start-stands : (s : ℕ) (env marks held written : List ℕ) (sums : List Sum) → StandsEnv env sums → length marks ≡ 64 → length held ≡ 2112 → length written ≡ 2112
+    → Stands (startAs s env marks held written) (side s sums [] [])
+unfolding startAs sideAs conditionsAs heldAs writesAs side reads writes AllAsked upTo
+start-stands s env marks held written sums h m c w =
     record {
       state = refl;
-      conditions = no-conditions;
-      held = record { variables = h; four-reads = refl; four-writes = refl; counts = no-reads; ports = λ p k. rw (no-port p k) blank-port };
+      conditions = record { count = refl; few = omega arith; full-marks = m; full-sums = c; same = refl; good = tt };
+      held = record { variables = h; four-reads = refl; four-writes = refl; full = w; counts = none-yet; ports = empty-port written };
     }
-
-length-choices : (n x : ℕ) → length (choices n x) ≡ n
-unfolding choices
-length-choices zero x = refl
-length-choices (suc n) x = ap suc (length-choices n _)
 
 -- The answer of `side::follow`.
 
-fits-answered : (o : Outcome Side) {r : Followed} → r ≡ followedOf o → r .size ≡ Fits → o ≡ fits (r .side)
-unfolding followedOf
-fits-answered tooLarge e h = absurd (let f = ap (λ (a : Followed). a .size) (sym e) ∙ h in let z : _≡_ {A = ℕ} 0 1 = cc in omega arith)
-fits-answered (fits d) e h = ap fits (sym (ap (λ (a : Followed). a .side) e))
+sized-whole : (z : Size) {d : Side} {o : Reached Side} → sizedAs z d ≡ o → z ≡ Fits → o ≡ whole d
+unfolding sizedAs
+sized-whole z {d} e h = sym e ∙ ap (λ y. sizedAs y d) h
 
-large-answered : (o : Outcome Side) {r : Followed} → r ≡ followedOf o → r .size ≡ TooLarge → o ≡ tooLarge
-unfolding followedOf
-large-answered tooLarge e h = refl
-large-answered (fits d) e h = absurd (let f = ap (λ (a : Followed). a .size) (sym e) ∙ h in let z : _≡_ {A = ℕ} 0 1 = cc in omega arith)
+sized-stuck : (z : Size) {d : Side} {o : Reached Side} → sizedAs z d ≡ o → z ≡ TooLarge → o ≡ stuck d
+unfolding sizedAs
+sized-stuck z {d} e h = sym e ∙ ap (λ y. sizedAs y d) h
 
-module _ (image : List ℕ) (s n x : ℕ) (env : Env) (sums : List Sum) (short : n ≤ 32) (h : StandsEnv (env .words) sums)
-    {r : Followed} (e : r ≡ followedOf (followK (tableOf image) (choices n x) (startAs s env))) where
-  in-step : Both Stands (followK (tableOf image) (choices n x) (startAs s env)) (follow base (tableOf image) (choices n x) (side s sums [] []))
-  unfolding startAs sideAs noConditions
+module _ (image : List ℕ) (s n x : ℕ) (env marks held written : List ℕ) (sums : List Sum) (short : n ≤ 32) (h : StandsEnv env sums) (m : length marks ≡ 64)
+    (c : length held ≡ 2112) (w : length written ≡ 2112) (z : Size) (d : Side)
+    (e : sizedAs z d ≡ followK (tableOf image) (choices n x) (startAs s env marks held written)) where
+  in-step : Both Stands (followK (tableOf image) (choices n x) (startAs s env marks held written)) (follow base (tableOf image) (choices n x) (side s sums [] []))
+  unfolding startAs sideAs conditionsAs
   in-step =
       let l : length (choices n x) ≡ n = length-choices n x in
-      follow-stands (tableOf image) (choices n x) (startAs s env) (side s sums [] []) (start-stands s env sums h) (omega arith)
+      follow-stands (tableOf image) (choices n x) (startAs s env marks held written) (side s sums [] []) (start-stands s env marks held written sums h m c w) (omega arith)
 
-  -- Too large: so is the paper's path.
-  pub follow-large : r .size ≡ TooLarge → follow base (tableOf image) (choices n x) (side s sums [] []) ≡ tooLarge
-  follow-large f = both-large Stands _ _ in-step (large-answered _ e f)
+  -- Stuck: the paper's path is too large.
+  pub follow-large : z ≡ TooLarge → follow base (tableOf image) (choices n x) (side s sums [] []) ≡ tooLarge
+  follow-large f = both-large Stands _ _ d in-step (sized-stuck z e f)
 
   -- The side stands for the paper's.
-  pub follow-fits : r .size ≡ Fits → (m : Model.Side) × (follow base (tableOf image) (choices n x) (side s sums [] []) ≡ fits m) × Stands (r .side) m
-  follow-fits f = both-fits Stands _ _ (r .side) in-step (fits-answered _ e f)
-
--- A followed path ends in the state that its choices lead to.
-ends-in : (t : Table) (bs : List Bool) (d d′ : Side) → followK t bs d ≡ fits d′ → d′ .state ≡ endState t (d .state) bs
-unfolding followK endState sideAs
-ends-in t [] d d′ f = ap (λ (x : Side). x .state) (sym (fits-same f))
-ends-in t (b ∷ bs) d d′ f =
-    let (cs, ec, g) = andThen-fits (askedK (d .held .env .words) (t (d .state)) b (d .conditions)) _ f in
-    let (h, eh, k) = andThen-fits (actionsK (d .held .env .words) (edgeOn (t (d .state)) b .actions) (d .held)) _ g in
-    ends-in t bs (sideAs (edgeOn (t (d .state)) b .target) cs h) d′ k
-
-pub follow-ends : (image : List ℕ) (s n x : ℕ) (env : Env) {r : Followed} → r ≡ followedOf (followK (tableOf image) (choices n x) (startAs s env))
-    → r .size ≡ Fits → r .side .state ≡ endState (tableOf image) s (choices n x)
-unfolding startAs sideAs
-follow-ends image s n x env {r} e f = ends-in (tableOf image) (choices n x) (startAs s env) (r .side) (fits-answered _ e f)
+  pub follow-fits : z ≡ Fits → (m : Model.Side) × (follow base (tableOf image) (choices n x) (side s sums [] []) ≡ fits m) × Stands d m
+  follow-fits f = both-fits Stands _ _ d in-step (sized-whole z e f)
 
 -- An environment of symbols.
 
 symbols-keyed : (list : List ℕ) → Small list → AllKeyed (map symbolSum list)
 unfolding AllKeyed Small
 symbols-keyed [] h = tt
-symbols-keyed (x ∷ list) h = (symbol-packs x (h .0) .good .keyed, symbols-keyed list (h .1))
+symbols-keyed (x ∷ list) h = (symbol-packs x (h .0) .keyed, symbols-keyed list (h .1))
 
 symbols-packed : (list : List ℕ) → Small list → map (λ x. symbolK (symbolOf x)) list ≡ map (packSum pack) (map symbolSum list)
 unfolding Small
@@ -165,7 +122,7 @@ symbols-packed (x ∷ list) h = λ i. symbol-packs x (h .0) .same i ∷ symbols-
 symbols-length : (list words : List ℕ) (v n : ℕ) → length words ≡ 528 → length (symbolsFrom list words v n) ≡ 528
 unfolding symbolsFrom
 symbols-length list words v zero h = h
-symbols-length list words v (suc n) h = symbols-length list _ (suc v) n (length-stored words v _ h (one-symbol _))
+symbols-length list words v (suc n) h = symbols-length list _ (suc v) n (length-with words v _ h (one-symbol _))
 
 -- The variables below v are their symbols; so are all once the others are stored.
 symbols-stored : (list words : List ℕ) (v n : ℕ) → length list ≡ 16 → length words ≡ 528 → v + n ≡ 16
@@ -179,20 +136,18 @@ symbols-stored list words v (suc n) k h e p =
     let f : ℕ → List Term = λ x. symbolK (symbolOf x) in
     let a : length (sumsOf words) ≡ 16 = length-sums words in
     let b : length (map f list) ≡ length list = length-map list f in
-    let q : take (suc v) (sumsOf (storedIn words v (f (getD list v 0)))) ≡ take v (sumsOf words) ++ (f (getD list v 0) ∷ []) =
-    ap (take (suc v)) (sums-stored words v (f (getD list v 0)) h (one-symbol _)) ∙ take-suc-set (sumsOf words) v (f (getD list v 0)) (omega arith) in
+    let q : take (suc v) (sumsOf (withVariable words v (f (getD list v 0)))) ≡ take v (sumsOf words) ++ (f (getD list v 0) ∷ []) =
+    ap (take (suc v)) (sums-with words v (f (getD list v 0)) h (one-symbol _)) ∙ take-suc-set (sumsOf words) v (f (getD list v 0)) (omega arith) in
     let r : take (suc v) (map f list) ≡ take v (map f list) ++ (f (getD list v 0) ∷ []) =
     take-suc (map f list) v (f 0) (omega arith) ∙ ap (λ y. take v (map f list) ++ (y ∷ [])) (List·getD-map f list v 0) in
-    symbols-stored list (storedIn words v (f (getD list v 0))) (suc v) n k (length-stored words v _ h (one-symbol _)) (omega arith)
+    symbols-stored list (withVariable words v (f (getD list v 0))) (suc v) n k (length-with words v _ h (one-symbol _)) (omega arith)
     (q ∙ ap (λ l. l ++ (f (getD list v 0) ∷ [])) p ∙ sym r)
 
--- The environment that `env::symbols` makes stands for the sums of its symbols.
-pub symbols-stand : (list : List ℕ) → length list ≡ 16 → Small list → StandsEnv (symbolWords list) (map symbolSum list)
-unfolding symbolWords
-symbols-stand list k h =
-    let full : length {A = ℕ} (replicate 528 0) ≡ 528 = refl in
+-- The environment that `env::symbols` makes of any words stands for the sums of its symbols.
+pub symbols-stand : (list words : List ℕ) → length list ≡ 16 → length words ≡ 528 → Small list → StandsEnv (symbolsFrom list words 0 16) (map symbolSum list)
+symbols-stand list words k full h =
     record {
-      full = symbols-length list (replicate 528 0) 0 16 full;
-      sums = symbols-stored list (replicate 528 0) 0 16 k full (omega arith) refl ∙ symbols-packed list h;
+      full = symbols-length list words 0 16 full;
+      sums = symbols-stored list words 0 16 k full (omega arith) refl ∙ symbols-packed list h;
       keyed = symbols-keyed list h;
     }

@@ -6,30 +6,24 @@ use mathlib.Core.Bool.{Bool, true, false, not}
 use mathlib.Core.List.{List, map}
 use native.Mathlib.Omega.{arith}
 use lib.Dec.{ltb}
-use lib.ListN.{length}
-use borrow.Author.Tests.{ltb-true, lt-ltb, le-ltb, not-true, not-false}
-use Rattle.model.specs.Expr.{readAt, treeOf}
+use lib.ListN.{length, set}
+use borrow.Author.Tests.{lt-ltb, le-ltb, not-true, not-false}
+use Rattle.model.specs.Expr.{readAt, isParsed, treeOf}
 use Rattle.model.specs.Table.{assign, read, write, actionOf}
-use Rattle.model.specs.Sum.{tooLarge, fits, andThen}
+use Rattle.model.specs.Sum.{tooLarge}
 use Rattle.model.specs.Path.{readSymbol, roomOn}
-use Rattle.model.proofs.Basics.{and-left, and-right}
+use Rattle.model.proofs.Following.{room-facts}
 use Rattle.key.specs.Key.{symbolOf}
-use Rattle.sum.specs.declared.Sum.{Sum}
 use Rattle.sum.specs.declared.Added.{Added}
 use Rattle.sum.specs.declared.Size.the-variants.{Fits, TooLarge}
-use Rattle.sum.specs.Packed.{asSum, termsOf, symbolK, addedOf}
-use Rattle.sum.proofs.Held.{terms-as}
-use Rattle.env.specs.declared.Env.{Env}
-use Rattle.env.specs.Env.{storedIn}
+use Rattle.sum.specs.Packed.{termsOf, symbolK, addedOf}
+use Rattle.env.specs.Env.{withVariable}
 use Rattle.fault.proofs.Along.{upTo-cons, upTo-none}
 use Rattle.table.specs.declared.ActionRecord.{ActionRecord}
 use Rattle.table.specs.Checks.{actionRecord}
-use Rattle.side.specs.declared.Held.{Held}
-use Rattle.side.specs.declared.Reads.{Reads}
-use Rattle.side.specs.declared.Writes.{Writes}
-use Rattle.side.specs.Parts.{readsOn, withRead, portOn, withWrite, withVariable, heldAs}
-use Rattle.side.specs.Following.{formedOn, actionK, actionsK, actionIn, actionsIn}
-use Rattle.side.proofs.Forming.{added-large, added-fits, added-sum, formed-few}
+use Rattle.side.specs.Parts.{Held, countOn, oneMore, withWrite, writesAs, heldAs}
+use Rattle.side.specs.Following.{AllParsed, whole, stuck, afterSum, after, formedOn, withEnv, withRead, withGiven, actionK, actionsK, actionIn, actionsIn}
+use Rattle.side.proofs.Forming.{added-large, added-fits, formed-few}
 
 -- Room on a port.
 
@@ -41,10 +35,6 @@ pub room-some : (p n : ℕ) → p < 4 → ltb n 16 ≡ roomOn p n
 unfolding roomOn
 room-some p n h = rw (lt-ltb p 4 h)
 
-pub room-facts : (p n : ℕ) → roomOn p n ≡ true → (p < 4) × (n < 16)
-unfolding roomOn
-room-facts p n e = (ltb-true p 4 (and-left (ltb p 4) _ e), ltb-true n 16 (and-right (ltb p 4) _ e))
-
 pub room-both : {p n m : ℕ} {b : Bool} → b ≡ roomOn p n → n ≡ m → not b ≡ false → (p < 4) × (m < 16)
 room-both {p} {n} {m} {b} asked counted h =
     let (port, few) = room-facts p n (sym asked ∙ not-false b h) in
@@ -52,40 +42,48 @@ room-both {p} {n} {m} {b} asked counted h =
 
 -- The actions from i on, `left` of them, are still to be done.
 pub record Moving (image code : List ℕ) (at first count : ℕ) (start held : Held) (i left : ℕ) : Type 0 where
+  pub low : first ≤ i
   pub place : i + left ≡ first + count
-  pub rest : actionsK (start .env .words) (actionsIn image code at i left) held ≡ actionsK (start .env .words) (actionsIn image code at first count) start
+  pub rest : actionsK (start .env) (actionsIn image code at i left) held ≡ actionsK (start .env) (actionsIn image code at first count) start
 
 module _ (image code : List ℕ) (at first count : ℕ) (start : Held) where
   pub move-start : Moving image code at first count start start first count
-  move-start = record { place = refl; rest = refl }
+  move-start = record { low = omega arith; place = refl; rest = refl }
 
-  turn : (held : Held) (i left : ℕ) → 0 < left → actionsK (start .env .words) (actionsIn image code at i left) held
-      ≡ andThen (actionK (start .env .words) (actionIn code (actionRecord image at i)) held) (actionsK (start .env .words) (actionsIn image code at (i + 1) (left - 1)))
+  turn : (held : Held) (i left : ℕ) → 0 < left → actionsK (start .env) (actionsIn image code at i left) held
+      ≡ after (actionK (start .env) (actionIn code (actionRecord image at i)) held) (λ g. g) (actionsK (start .env) (actionsIn image code at (i + 1) (left - 1)))
   unfolding actionsK actionsIn
   turn held i left h =
-      ap (λ l. actionsK (start .env .words) (map (λ j. actionIn code (actionRecord image at j)) l) held) (upTo-cons i left (left - 1) (omega arith))
+      ap (λ l. actionsK (start .env) (map (λ j. actionIn code (actionRecord image at j)) l) held) (upTo-cons i left (left - 1) (omega arith))
 
   module _ (held : Held) (i left : ℕ) (v : Moving image code at first count start held i left) (more : 0 < left) where
-    pub move-step : {r : ActionRecord} {held′ : Held} → r ≡ actionRecord image at i → actionK (start .env .words) (actionIn code r) held ≡ fits held′ → Moving image code at first count start held′ (i + 1) (left - 1)
-    unfolding andThen
+    -- The expression of the next action, unless it is a read.
+    pub move-parsed : {r : ActionRecord} → r ≡ actionRecord image at i → AllParsed image code at first count → (r .kind ≡ 1 → ⊥) → isParsed (readAt code (r .b)) ≡ true
+    move-parsed {r} e all other =
+        let p : i + left ≡ first + count = v .place in
+        ap (λ x. isParsed (readAt code (x .b))) e ∙ all i (v .low) (omega arith) (λ k. other (ap (λ x. x .kind) e ∙ k))
+
+    pub move-step : {r : ActionRecord} {held′ : Held} → r ≡ actionRecord image at i → actionK (start .env) (actionIn code r) held ≡ whole held′ → Moving image code at first count start held′ (i + 1) (left - 1)
+    unfolding after
     move-step {r} e d =
-        let o = ap (λ x. actionK (start .env .words) (actionIn code x) held) (sym e) ∙ d in
+        let o = ap (λ x. actionK (start .env) (actionIn code x) held) (sym e) ∙ d in
         let p : i + left ≡ first + count = v .place in
         record {
+          low = omega (arith, v .low);
           place = omega arith;
-          rest = sym (turn held i left more ∙ ap (λ x. andThen x (actionsK (start .env .words) (actionsIn image code at (i + 1) (left - 1)))) o) ∙ v .rest;
+          rest = sym (turn held i left more ∙ ap (λ x. after x (λ g. g) (actionsK (start .env) (actionsIn image code at (i + 1) (left - 1)))) o) ∙ v .rest;
         }
 
-    pub move-large : {r : ActionRecord} → r ≡ actionRecord image at i → actionK (start .env .words) (actionIn code r) held ≡ tooLarge → tooLarge ≡ actionsK (start .env .words) (actionsIn image code at first count) start
-    unfolding andThen
-    move-large {r} e d =
-        let o = ap (λ x. actionK (start .env .words) (actionIn code x) held) (sym e) ∙ d in
-        sym (turn held i left more ∙ ap (λ x. andThen x (actionsK (start .env .words) (actionsIn image code at (i + 1) (left - 1)))) o) ∙ v .rest
+    pub move-stuck : {r : ActionRecord} → r ≡ actionRecord image at i → actionK (start .env) (actionIn code r) held ≡ stuck held → stuck held ≡ actionsK (start .env) (actionsIn image code at first count) start
+    unfolding after
+    move-stuck {r} e d =
+        let o = ap (λ x. actionK (start .env) (actionIn code x) held) (sym e) ∙ d in
+        sym (turn held i left more ∙ ap (λ x. after x (λ g. g) (actionsK (start .env) (actionsIn image code at (i + 1) (left - 1)))) o) ∙ v .rest
 
-  pub move-end : (held : Held) (i left : ℕ) → Moving image code at first count start held i left → left ≤ 0 → fits held ≡ actionsK (start .env .words) (actionsIn image code at first count) start
+  pub move-end : (held : Held) (i left : ℕ) → Moving image code at first count start held i left → left ≤ 0 → whole held ≡ actionsK (start .env) (actionsIn image code at first count) start
   unfolding actionsK actionsIn
   move-end held i left v h =
-      let e = ap (λ l. actionsK (start .env .words) (map (λ j. actionIn code (actionRecord image at j)) l) held) (upTo-none i left (omega arith)) in
+      let e = ap (λ l. actionsK (start .env) (map (λ j. actionIn code (actionRecord image at j)) l) held) (upTo-none i left (omega arith)) in
       sym e ∙ v .rest
 
 -- One action, by its kind.
@@ -95,7 +93,7 @@ pub one-symbol : (m : ℕ) → length (symbolK m) ≤ 16
 unfolding symbolK
 one-symbol m = omega arith
 
-module _ (before code : List ℕ) (r : ActionRecord) (env : Env) (reads : Reads) (writes : Writes) where
+module _ (before code : List ℕ) (r : ActionRecord) (env reads counts written : List ℕ) where
   is-read : r .kind ≡ 1 → actionIn code r ≡ read (r .a) (r .b)
   unfolding actionIn actionOf
   is-read h = rw h
@@ -115,55 +113,55 @@ module _ (before code : List ℕ) (r : ActionRecord) (env : Env) (reads : Reads)
 
   -- A read.
 
-  module _ (is : r .kind ≡ 1) {n : ℕ} {b : Bool} (counted : n ≡ readsOn reads (r .a)) (asked : b ≡ roomOn (r .a) n) where
-    pub read-full : not b ≡ true → actionK before (actionIn code r) (heldAs env reads writes) ≡ tooLarge
+  module _ (is : r .kind ≡ 1) {n : ℕ} {b : Bool} (counted : n ≡ countOn reads (r .a)) (asked : b ≡ roomOn (r .a) n) where
+    pub read-full : not b ≡ true → actionK before (actionIn code r) (heldAs env reads counts written) ≡ stuck (heldAs env reads counts written)
     unfolding actionK heldAs
     read-full h =
-        let e : roomOn (r .a) (readsOn reads (r .a)) ≡ false = ap (roomOn (r .a)) (sym counted) ∙ sym asked ∙ not-true b h in
+        let e : roomOn (r .a) (countOn reads (r .a)) ≡ false = ap (roomOn (r .a)) (sym counted) ∙ sym asked ∙ not-true b h in
         rw (is-read is, e) refl
 
-    pub read-done : {s : Sum} {env′ : Env} {reads′ : Reads} → not b ≡ false → s ≡ asSum (symbolK (symbolOf (readSymbol (r .a) n))) → env′ .words ≡ storedIn (env .words) (r .b) (termsOf s) → reads′ ≡ withRead reads (r .a)
-        → actionK before (actionIn code r) (heldAs env reads writes) ≡ fits (heldAs env′ reads′ writes)
-    unfolding actionK heldAs withVariable
-    read-done {s} h es ee er =
-        let e : roomOn (r .a) (readsOn reads (r .a)) ≡ true = ap (roomOn (r .a)) (sym counted) ∙ sym asked ∙ not-false b h in
-        let x : symbolK (symbolOf (readSymbol (r .a) (readsOn reads (r .a)))) ≡ termsOf s =
-        ap (λ k. symbolK (symbolOf (readSymbol (r .a) k))) (sym counted) ∙ sym (ap termsOf es ∙ terms-as _ (one-symbol _)) in
-        let w = ap (storedIn (env .words) (r .b)) x ∙ sym ee in
-        rw (is-read is, e) (λ i. fits (record { env = record { words = w i }; reads = sym er i; writes = writes }))
+    pub read-done : {m : ℕ} {env′ : List ℕ} → not b ≡ false → m ≡ symbolOf (readSymbol (r .a) n) → env′ ≡ withVariable env (r .b) (symbolK m)
+        → actionK before (actionIn code r) (heldAs env reads counts written) ≡ whole (heldAs env′ (set reads (r .a) (n + 1)) counts written)
+    unfolding actionK heldAs withRead oneMore
+    read-done {m} h es ee =
+        let e : roomOn (r .a) (countOn reads (r .a)) ≡ true = ap (roomOn (r .a)) (sym counted) ∙ sym asked ∙ not-false b h in
+        let x : symbolK (symbolOf (readSymbol (r .a) (countOn reads (r .a)))) ≡ symbolK m =
+        ap (λ k. symbolK (symbolOf (readSymbol (r .a) k))) (sym counted) ∙ sym (ap symbolK es) in
+        let w = ap (withVariable env (r .b)) x ∙ sym ee in
+        rw (is-read is, e) (λ i. whole (record { env = w i; reads = set reads (r .a) (sym counted i + 1); writes = writesAs counts written }))
 
   -- An expression that is too large, assigned or written.
   module _ {f : Added} (formed : f ≡ addedOf (formedOn before (treeOf (readAt code (r .b))))) (other : r .kind ≡ 1 → ⊥) where
-    pub sum-large : f .size ≡ TooLarge → actionK before (actionIn code r) (heldAs env reads writes) ≡ tooLarge
-    unfolding actionK andThen
+    pub sum-large : f .size ≡ TooLarge → actionK before (actionIn code r) (heldAs env reads counts written) ≡ stuck (heldAs env reads counts written)
+    unfolding actionK afterSum
     sum-large h = by (r .kind) refl
       where
         large : formedOn before (treeOf (readAt code (r .b))) ≡ tooLarge
         large = added-large _ formed h
 
-        by : (k : ℕ) → r .kind ≡ k → actionK before (actionIn code r) (heldAs env reads writes) ≡ tooLarge
+        by : (k : ℕ) → r .kind ≡ k → actionK before (actionIn code r) (heldAs env reads counts written) ≡ stuck (heldAs env reads counts written)
         by zero e = rw (is-assign e, large) refl
         by (suc k) e = rw (is-write other (λ z. absurd (omega arith)), large) refl
 
     -- An assign.
-    pub assign-done : {env′ : Env} → f .size ≡ Fits → r .kind ≡ 0 → env′ .words ≡ storedIn (env .words) (r .a) (termsOf (f .sum))
-        → actionK before (actionIn code r) (heldAs env reads writes) ≡ fits (heldAs env′ reads writes)
-    unfolding actionK heldAs withVariable andThen
+    pub assign-done : {env′ : List ℕ} → f .size ≡ Fits → r .kind ≡ 0 → env′ ≡ withVariable env (r .a) (termsOf (f .sum))
+        → actionK before (actionIn code r) (heldAs env reads counts written) ≡ whole (heldAs env′ reads counts written)
+    unfolding actionK heldAs withEnv afterSum
     assign-done h k e =
-        rw (is-assign k, added-fits _ (formed-few before _) formed h) (λ i. fits (record { env = record { words = sym e i }; reads = reads; writes = writes }))
+        rw (is-assign k, added-fits _ (formed-few before _) formed h) (λ i. whole (record { env = sym e i; reads = reads; writes = writesAs counts written }))
 
     -- A write.
-    module _ {n : ℕ} {b : Bool} (fine : f .size ≡ Fits) (not-assign : r .kind ≡ 0 → ⊥) (counted : n ≡ portOn writes (r .a) .n) (asked : b ≡ roomOn (r .a) n) where
-      pub write-full : not b ≡ true → actionK before (actionIn code r) (heldAs env reads writes) ≡ tooLarge
-      unfolding actionK heldAs andThen
+    module _ {n : ℕ} {b : Bool} (fine : f .size ≡ Fits) (not-assign : r .kind ≡ 0 → ⊥) (counted : n ≡ countOn counts (r .a)) (asked : b ≡ roomOn (r .a) n) where
+      pub write-full : not b ≡ true → actionK before (actionIn code r) (heldAs env reads counts written) ≡ stuck (heldAs env reads counts written)
+      unfolding actionK heldAs writesAs afterSum
       write-full h =
-          let e : roomOn (r .a) (portOn writes (r .a) .n) ≡ false = ap (roomOn (r .a)) (sym counted) ∙ sym asked ∙ not-true b h in
+          let e : roomOn (r .a) (countOn counts (r .a)) ≡ false = ap (roomOn (r .a)) (sym counted) ∙ sym asked ∙ not-true b h in
           rw (is-write other not-assign, added-fits _ (formed-few before _) formed fine, e) refl
 
-      pub write-done : {writes′ : Writes} → not b ≡ false → writes′ ≡ withWrite writes (r .a) (f .sum) → actionK before (actionIn code r) (heldAs env reads writes) ≡ fits (heldAs env reads writes′)
-      unfolding actionK heldAs andThen
-      write-done h d =
-          let e : roomOn (r .a) (portOn writes (r .a) .n) ≡ true = ap (roomOn (r .a)) (sym counted) ∙ sym asked ∙ not-false b h in
-          let s = added-sum _ (formed-few before _) formed in
+      pub write-done : (counts′ written′ : List ℕ) → not b ≡ false → writesAs counts′ written′ ≡ withWrite (writesAs counts written) (r .a) (termsOf (f .sum))
+          → actionK before (actionIn code r) (heldAs env reads counts written) ≡ whole (heldAs env reads counts′ written′)
+      unfolding actionK heldAs withGiven afterSum writesAs
+      write-done counts′ written′ h d =
+          let e : roomOn (r .a) (countOn counts (r .a)) ≡ true = ap (roomOn (r .a)) (sym counted) ∙ sym asked ∙ not-false b h in
           rw (is-write other not-assign, added-fits _ (formed-few before _) formed fine, e)
-          (λ i. fits (record { env = env; reads = reads; writes = (ap (withWrite writes (r .a)) s ∙ sym d) i }))
+          (λ i. whole (record { env = env; reads = reads; writes = sym d i }))

@@ -1,6 +1,8 @@
 -- `judge::judge_marked` meets its contract. Assumes nothing.
 use borrow.Author.Needs.{needs}
-use Rattle.judge.proofs.Decoded.{pair-sound, path-sound, judged-large, judged-marked}
+use Rattle.side.specs.Parts.{conditionsAs, sideAs}
+use Rattle.side.specs.Following.{sideOf}
+use Rattle.judge.proofs.Decoded.{arrays, pair-sound, path-sound, judged-large, judged-marked}
 use Rattle.judge.proofs.judge_marked.Statement.{statement}
 use Rattle.judge.proofs.judge_marked.Tie as tie
 
@@ -14,7 +16,7 @@ path-requires : tie.Need-path-requires
 path-requires c κs = search needs
 
 follow-requires : tie.Need-follow-requires
-follow-requires c κs = (c .before .before .before .before .before .before .pre .0 .0, (pair-sound _ _ _ (c .before .before .before .before .before .before .pre .0) _ (c .before .before .before .before .before .before .pre .1 .0 .0) (c .before .before .pair .ensures) .first, path-sound _ _ _ (c .before .before .before .before .before .before .pre .0) _ (c .before .before .before .before .before .before .pre .1 .0 .0) (c .before .before .pair .ensures) _ (c .before .before .before .before .before .before .pre .1 .0 .1) (c .before .word-at .ensures) (c .path .ensures) .short))
+follow-requires c κs = (c .before .before .before .before .before .before .before .before .before .before .before .pre .0 .0, (pair-sound _ _ _ (c .before .before .before .before .before .before .before .before .before .before .before .pre .0) _ (c .before .before .before .before .before .before .before .before .before .before .before .pre .1 .0 .0) (c .before .before .before .before .before .before .before .pair .ensures) .first, path-sound _ _ _ (c .before .before .before .before .before .before .before .before .before .before .before .pre .0) _ (c .before .before .before .before .before .before .before .before .before .before .before .pre .1 .0 .0) (c .before .before .before .before .before .before .before .pair .ensures) _ (c .before .before .before .before .before .before .before .before .before .before .before .pre .1 .0 .1) (c .before .before .before .before .before .before .word-at .ensures) (c .before .before .before .before .before .path .ensures) .short))
 
 enum-told : tie.Need-enum-told
 enum-told c = search needs
@@ -29,10 +31,11 @@ found-requires : tie.Need-found-requires
 found-requires c κs = search needs
 
 returns : tie.Need-returns
-returns c = judged-large _ _ _ (c .before .before .before .before .before .before .before .before .before .pre .0) _ (c .before .before .before .before .before .before .before .before .before .pre .1 .0 .0) (c .before .before .before .before .before .pair .ensures) _ (c .before .before .before .before .before .before .before .before .before .pre .1 .0 .1) (c .before .before .before .before .word-at .ensures) (c .before .before .before .path .ensures) _ (c .before .before .before .before .before .before .before .before .before .pre .1 .1) (c .before .before .follow .ensures) (c .before .before .before .before .before .before .before .before .before .pre .1 .0 .2) (c .enum-told .given .1)
+returns c = judged-large _ _ _ (c .before .before .before .before .before .before .before .before .before .before .before .before .before .before .pre .0) _ (c .before .before .before .before .before .before .before .before .before .before .before .before .before .before .pre .1 .0 .0) (c .before .before .before .before .before .before .before .before .before .before .pair .ensures) _ (c .before .before .before .before .before .before .before .before .before .before .before .before .before .before .pre .1 .0 .1) (c .before .before .before .before .before .before .before .before .before .word-at .ensures) (c .before .before .before .before .before .before .before .before .path .ensures) _ (c .before .before .before .before .before .before .before .before .before .before .before .before .before .before .pre .1 .1) (arrays _ _ _ (c .before .before .follow .ensures .1)) _ _ (c .before .before .follow .ensures .0) (c .before .before .before .before .before .before .before .before .before .before .before .before .before .before .pre .1 .0 .2) (c .enum-told .given .1)
 
 returns-2 : tie.Need-returns-2
-returns-2 c = judged-marked _ _ _ (c .before .before .before .before .before .before .before .before .before .before .before .before .pre .0) _ (c .before .before .before .before .before .before .before .before .before .before .before .before .pre .1 .0 .0) (c .before .before .before .before .before .before .before .before .pair .ensures) _ (c .before .before .before .before .before .before .before .before .before .before .before .before .pre .1 .0 .1) (c .before .before .before .before .before .before .before .word-at .ensures) (c .before .before .before .before .before .before .path .ensures) _ (c .before .before .before .before .before .before .before .before .before .before .before .before .pre .1 .1) (c .before .before .before .before .before .follow .ensures) (c .before .before .before .before .before .before .before .before .before .before .before .before .pre .1 .0 .2) (c .before .before .before .enum-told2 .given .1) (c .before .contradicts .ensures) (c .found .ensures)
+unfolding sideOf sideAs conditionsAs
+returns-2 c = judged-marked _ _ _ (c .before .before .before .before .before .before .before .before .before .before .before .before .before .before .before .before .before .before .pre .0) _ (c .before .before .before .before .before .before .before .before .before .before .before .before .before .before .before .before .before .before .pre .1 .0 .0) (c .before .before .before .before .before .before .before .before .before .before .before .before .before .before .pair .ensures) _ (c .before .before .before .before .before .before .before .before .before .before .before .before .before .before .before .before .before .before .pre .1 .0 .1) (c .before .before .before .before .before .before .before .before .before .before .before .before .before .word-at .ensures) (c .before .before .before .before .before .before .before .before .before .before .before .before .path .ensures) _ (c .before .before .before .before .before .before .before .before .before .before .before .before .before .before .before .before .before .before .pre .1 .1) (arrays _ _ _ (c .before .before .before .before .before .before .follow .ensures .1)) _ _ (c .before .before .before .before .before .before .follow .ensures .0) (c .before .before .before .before .before .before .before .before .before .before .before .before .before .before .before .before .before .before .pre .1 .0 .2) (c .before .before .before .before .enum-told2 .given .1) (c .before .contradicts .ensures) (c .found .ensures)
 
 pub judge-marked-spec : {M : Type 1} → statement M
 judge-marked-spec =

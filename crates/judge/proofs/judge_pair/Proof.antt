@@ -25,10 +25,10 @@ returns-2 : tie.Need-returns-2
 returns-2 c = pair-uncovered _ _ _ (c .before .before .before .before .before .before .before .before .before .pre .0) _ (c .before .before .before .before .before .before .before .before .before .pre .1 .0) (c .before .before .before .before .before .pair .ensures) (c .before .before .before .before .stops .ensures) (c .before .before .before .stops2 .ensures) (not-false _ (c .before .before .if1 .left)) (c .before .covers .ensures) (not-true _ (c .if2 .taken))
 
 judge-paths-requires : tie.Need-judge-paths-requires
-judge-paths-requires c κs = (c .before .before .before .before .before .before .before .before .before .pre .0, (c .before .before .before .before .before .before .before .before .before .pre .1, pair-covered _ _ _ (c .before .before .before .before .before .before .before .before .before .pre .0) _ (c .before .before .before .before .before .before .before .before .before .pre .1 .0) (c .before .before .before .before .before .pair .ensures) (c .before .before .before .before .stops .ensures) (c .before .before .before .stops2 .ensures) (not-false _ (c .before .before .if1 .left)) (c .before .covers .ensures) (not-false _ (c .if2 .left))))
+judge-paths-requires c κs = (c .before .before .before .before .before .before .before .before .before .before .before .before .before .before .before .pre .0, (c .before .before .before .before .before .before .before .before .before .before .before .before .before .before .before .pre .1, pair-covered _ _ _ (c .before .before .before .before .before .before .before .before .before .before .before .before .before .before .before .pre .0) _ (c .before .before .before .before .before .before .before .before .before .before .before .before .before .before .before .pre .1 .0) (c .before .before .before .before .before .before .before .before .before .before .before .pair .ensures) (c .before .before .before .before .before .before .before .before .before .before .stops .ensures) (c .before .before .before .before .before .before .before .before .before .stops2 .ensures) (not-false _ (c .before .before .before .before .before .before .before .before .if1 .left)) (c .before .before .before .before .before .before .before .covers .ensures) (not-false _ (c .before .before .before .before .before .before .if2 .left))))
 
 returns-3 : tie.Need-returns-3
-returns-3 c = pair-found _ _ _ (c .before .before .before .before .before .before .before .before .before .before .pre .0) _ (c .before .before .before .before .before .before .before .before .before .before .pre .1 .0) (c .before .before .before .before .before .before .pair .ensures) (c .before .before .before .before .before .stops .ensures) (c .before .before .before .before .stops2 .ensures) (not-false _ (c .before .before .before .if1 .left)) (c .before .before .covers .ensures) (not-false _ (c .before .if2 .left)) (c .judge-paths .ensures)
+returns-3 c = pair-found _ _ _ (c .before .before .before .before .before .before .before .before .before .before .before .before .before .before .before .before .pre .0) _ (c .before .before .before .before .before .before .before .before .before .before .before .before .before .before .before .before .pre .1 .0) (c .before .before .before .before .before .before .before .before .before .before .before .before .pair .ensures) (c .before .before .before .before .before .before .before .before .before .before .before .stops .ensures) (c .before .before .before .before .before .before .before .before .before .before .stops2 .ensures) (not-false _ (c .before .before .before .before .before .before .before .before .before .if1 .left)) (c .before .before .before .before .before .before .before .before .covers .ensures) (not-false _ (c .before .before .before .before .before .before .before .if2 .left)) (c .judge-paths .ensures)
 
 pub judge-pair-spec : {M : Type 1} → statement M
 judge-pair-spec =

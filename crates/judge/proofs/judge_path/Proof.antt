@@ -13,13 +13,13 @@ path-requires : tie.Need-path-requires
 path-requires c κs = search needs
 
 judge-marked-requires : tie.Need-judge-marked-requires
-judge-marked-requires c κs = (c .before .before .before .before .before .before .before .pre .0, ((c .before .before .before .before .before .before .before .pre .1 .0 .0, c .before .before .before .before .before .before .before .pre .1 .0 .1, path-mark _ _ _ (c .before .before .before .before .before .before .before .pre .0) _ (c .before .before .before .before .before .before .before .pre .1 .0 .0) refl _ (c .before .before .before .before .before .before .before .pre .1 .0 .1) (c .before .before .before .word-at .ensures) (c .before .before .path .ensures) (eq-eqb _ _ (c .if1 .taken))), c .before .before .before .before .before .before .before .pre .1 .1 .1 .0))
+judge-marked-requires c κs = (c .before .before .before .before .before .before .before .before .before .before .pre .0, ((c .before .before .before .before .before .before .before .before .before .before .pre .1 .0 .0, c .before .before .before .before .before .before .before .before .before .before .pre .1 .0 .1, path-mark _ _ _ (c .before .before .before .before .before .before .before .before .before .before .pre .0) _ (c .before .before .before .before .before .before .before .before .before .before .pre .1 .0 .0) refl _ (c .before .before .before .before .before .before .before .before .before .before .pre .1 .0 .1) (c .before .before .before .before .before .before .word-at .ensures) (c .before .before .before .before .before .path .ensures) (eq-eqb _ _ (c .before .before .before .if1 .taken))), c .before .before .before .before .before .before .before .before .before .before .pre .1 .1 .1 .0))
 
 returns : tie.Need-returns
 returns c = search needs
 
 judge-unmarked-requires : tie.Need-judge-unmarked-requires
-judge-unmarked-requires c κs = (c .before .before .before .before .before .before .before .pre .0, ((c .before .before .before .before .before .before .before .pre .1 .0 .0, c .before .before .before .before .before .before .before .pre .1 .0 .1, path-mark _ _ _ (c .before .before .before .before .before .before .before .pre .0) _ (c .before .before .before .before .before .before .before .pre .1 .0 .0) refl _ (c .before .before .before .before .before .before .before .pre .1 .0 .1) (c .before .before .before .word-at .ensures) (c .before .before .path .ensures) (ne-eqb _ _ (c .if1 .left))), (c .before .before .before .before .before .before .before .pre .1 .1 .0, c .before .before .before .before .before .before .before .pre .1 .1 .1)))
+judge-unmarked-requires c κs = (c .before .before .before .before .before .before .before .before .before .before .before .before .before .pre .0, ((c .before .before .before .before .before .before .before .before .before .before .before .before .before .pre .1 .0 .0, c .before .before .before .before .before .before .before .before .before .before .before .before .before .pre .1 .0 .1, path-mark _ _ _ (c .before .before .before .before .before .before .before .before .before .before .before .before .before .pre .0) _ (c .before .before .before .before .before .before .before .before .before .before .before .before .before .pre .1 .0 .0) refl _ (c .before .before .before .before .before .before .before .before .before .before .before .before .before .pre .1 .0 .1) (c .before .before .before .before .before .before .before .before .before .word-at .ensures) (c .before .before .before .before .before .before .before .before .path .ensures) (ne-eqb _ _ (c .before .before .before .before .before .before .if1 .left))), (c .before .before .before .before .before .before .before .before .before .before .before .before .before .pre .1 .1 .0, c .before .before .before .before .before .before .before .before .before .before .before .before .before .pre .1 .1 .1)))
 
 returns-2 : tie.Need-returns-2
 returns-2 c = search needs

@@ -15,11 +15,11 @@ use Rattle.judge.proofs.judge_paths.Statement.{statement}
 use Rattle.judge.proofs.judge_paths.Tie as tie
 
 abbrev Inv-loop : tie.InvT-loop
-Inv-loop first second list i own linked begin n k₀ k =
-    Along (λ m. judgePath base (tableOf first) (tableOf second) (pairAt list) (pairAt list i) (pathAt list (begin + m))) n k
+Inv-loop first second list i own m₀ s₀ w₀ om₀ os₀ ow₀ linked begin n k₀ m s w om os ow k =
+    Along (λ x. judgePath base (tableOf first) (tableOf second) (pairAt list) (pairAt list i) (pathAt list (begin + x))) n k
 
 abbrev μ-loop : tie.MeasureT-loop
-μ-loop first second list i own linked begin n k₀ k = n - k
+μ-loop first second list i own m₀ s₀ w₀ om₀ os₀ ow₀ linked begin n k₀ m s w om os ow k = n - k
 
 pair-requires : tie.Need-pair-requires Inv-loop μ-loop
 pair-requires c κs = search needs
@@ -37,31 +37,31 @@ loop-holds : tie.Need-loop-holds Inv-loop μ-loop
 loop-holds c = along-start _ _
 
 add-judge-path : tie.Need-add-judge-path Inv-loop μ-loop
-add-judge-path c = omega (arith, path-among _ _ _ (c .before .before .before .before .before .before .before .before .before .before .pre .0) _ (c .before .before .before .before .before .before .before .before .before .before .pre .1 .0 .0) (c .before .before .before .before .before .before .pair .ensures) _ (c .loop-test .taken) .1)
+add-judge-path c = omega (arith, path-among _ _ _ (c .before .before .before .before .before .before .before .before .before .before .before .pre .0) _ (c .before .before .before .before .before .before .before .before .before .before .before .pre .1 .0 .0) (c .before .before .before .before .before .before .before .pair .ensures) _ (c .loop-test .taken) .1)
 
 judge-path-requires : tie.Need-judge-path-requires Inv-loop μ-loop
-judge-path-requires c κs = (c .before .before .before .before .before .before .before .before .before .before .pre .0, ((c .before .before .before .before .before .before .before .before .before .before .pre .1 .0 .0, path-among _ _ _ (c .before .before .before .before .before .before .before .before .before .before .pre .0) _ (c .before .before .before .before .before .before .before .before .before .before .pre .1 .0 .0) (c .before .before .before .before .before .before .pair .ensures) _ (c .loop-test .taken) .0), (path-walked _ _ _ (c .before .before .before .before .before .before .before .before .before .before .pre .0) _ (c .before .before .before .before .before .before .before .before .before .before .pre .1 .0 .0) (c .before .before .before .before .before .before .pair .ensures) (c .before .before .before .before .before .before .before .before .before .before .pre .1 .1) _ (c .loop-test .taken), (c .before .before .before .before .before .before .before .before .before .before .pre .1 .0 .1, linked-is _ _ _ (c .before .before .before .before .before .before .before .before .before .before .pre .0) _ (c .before .before .before .before .before .before .before .before .before .before .pre .1 .0 .0) (c .before .before .before .before .before .before .pair .ensures) _ (c .before .before .before .before .partners .ensures) (c .before .before .symbols2 .ensures)))))
+judge-path-requires c κs = (c .before .before .before .before .before .before .before .before .before .before .before .before .before .before .before .before .before .before .pre .0, ((c .before .before .before .before .before .before .before .before .before .before .before .before .before .before .before .before .before .before .pre .1 .0 .0, path-among _ _ _ (c .before .before .before .before .before .before .before .before .before .before .before .before .before .before .before .before .before .before .pre .0) _ (c .before .before .before .before .before .before .before .before .before .before .before .before .before .before .before .before .before .before .pre .1 .0 .0) (c .before .before .before .before .before .before .before .before .before .before .before .before .before .before .pair .ensures) _ (c .before .before .before .before .before .before .before .loop-test .taken) .0), (path-walked _ _ _ (c .before .before .before .before .before .before .before .before .before .before .before .before .before .before .before .before .before .before .pre .0) _ (c .before .before .before .before .before .before .before .before .before .before .before .before .before .before .before .before .before .before .pre .1 .0 .0) (c .before .before .before .before .before .before .before .before .before .before .before .before .before .before .pair .ensures) (c .before .before .before .before .before .before .before .before .before .before .before .before .before .before .before .before .before .before .pre .1 .1) _ (c .before .before .before .before .before .before .before .loop-test .taken), (c .before .before .before .before .before .before .before .before .before .before .before .before .before .before .before .before .before .before .pre .1 .0 .1, linked-is _ _ _ (c .before .before .before .before .before .before .before .before .before .before .before .before .before .before .before .before .before .before .pre .0) _ (c .before .before .before .before .before .before .before .before .before .before .before .before .before .before .before .before .before .before .pre .1 .0 .0) (c .before .before .before .before .before .before .before .before .before .before .before .before .before .before .pair .ensures) (c .before .before .before .before .before .before .before .before .before .before .before .before .partners .ensures) (c .before .before .before .before .before .before .before .before .before .symbols2 .ensures)))))
 
 enum-known-number : tie.Need-enum-known-number Inv-loop μ-loop
 enum-known-number c = search needs
 
 returns : tie.Need-returns Inv-loop μ-loop
-returns c = along-broken _ _ _ (c .before .before .before .before .before .loop .inv) (c .before .before .before .before .loop-test .taken) (c .before .before .before .judge-path .ensures) (c .before .number .given .1) ∙ ap checkedOf (paths-along _ _ _ (c .before .before .before .before .before .before .before .before .before .before .before .before .before .before .pre .0) _ (c .before .before .before .before .before .before .before .before .before .before .before .before .before .before .pre .1 .0 .0) (c .before .before .before .before .before .before .before .before .before .before .pair .ensures))
+returns c = along-broken _ _ _ (c .before .before .before .before .before .before .before .before .before .before .before .before .loop .inv) (c .before .before .before .before .before .before .before .before .before .before .before .loop-test .taken) (c .before .before .before .judge-path .ensures) (c .before .number .given .1) ∙ ap checkedOf (paths-along _ _ _ (c .before .before .before .before .before .before .before .before .before .before .before .before .before .before .before .before .before .before .before .before .before .before .pre .0) _ (c .before .before .before .before .before .before .before .before .before .before .before .before .before .before .before .before .before .before .before .before .before .before .pre .1 .0 .0) (c .before .before .before .before .before .before .before .before .before .before .before .before .before .before .before .before .before .before .pair .ensures))
 
 enum-told : tie.Need-enum-told Inv-loop μ-loop
 enum-told c = search needs
 
 add-k : tie.Need-add-k Inv-loop μ-loop
-add-k c = omega (arith, path-among _ _ _ (c .before .before .before .before .before .before .before .before .before .before .before .before .before .pre .0) _ (c .before .before .before .before .before .before .before .before .before .before .before .before .before .pre .1 .0 .0) (c .before .before .before .before .before .before .before .before .before .pair .ensures) _ (c .before .before .before .loop-test .taken) .1)
+add-k c = omega (arith, path-among _ _ _ (c .before .before .before .before .before .before .before .before .before .before .before .before .before .before .before .before .before .before .before .before .before .pre .0) _ (c .before .before .before .before .before .before .before .before .before .before .before .before .before .before .before .before .before .before .before .before .before .pre .1 .0 .0) (c .before .before .before .before .before .before .before .before .before .before .before .before .before .before .before .before .before .pair .ensures) _ (c .before .before .before .before .before .before .before .before .before .before .loop-test .taken) .1)
 
 loop-less : tie.Need-loop-less Inv-loop μ-loop
-loop-less c = omega (arith, c .before .before .before .loop-test .taken)
+loop-less c = omega (arith, c .before .before .before .before .before .before .before .before .before .before .loop-test .taken)
 
 loop-again : tie.Need-loop-again Inv-loop μ-loop
-loop-again c = along-fine _ _ _ (c .before .before .before .before .loop .inv) (c .before .before .before .loop-test .taken) (c .before .before .judge-path .ensures) (c .enum-told .given .1)
+loop-again c = along-fine _ _ _ (c .before .before .before .before .before .before .before .before .before .before .before .loop .inv) (c .before .before .before .before .before .before .before .before .before .before .loop-test .taken) (c .before .before .judge-path .ensures) (c .enum-told .given .1)
 
 returns-2 : tie.Need-returns-2 Inv-loop μ-loop
-returns-2 c = along-end _ _ _ (c .before .loop .inv) (omega arith) ∙ ap checkedOf (paths-along _ _ _ (c .before .before .before .before .before .before .before .before .before .before .pre .0) _ (c .before .before .before .before .before .before .before .before .before .before .pre .1 .0 .0) (c .before .before .before .before .before .before .pair .ensures))
+returns-2 c = along-end _ _ _ (c .before .loop .inv) (omega arith) ∙ ap checkedOf (paths-along _ _ _ (c .before .before .before .before .before .before .before .before .before .before .before .pre .0) _ (c .before .before .before .before .before .before .before .before .before .before .before .pre .1 .0 .0) (c .before .before .before .before .before .before .before .pair .ensures))
 
 pub judge-paths-spec : {M : Type 1} → statement M
 judge-paths-spec =

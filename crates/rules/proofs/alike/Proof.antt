@@ -4,23 +4,19 @@ use borrow.Author.Needs.{needs}
 use Rattle.rules.proofs.alike.Statement.{statement}
 use Rattle.rules.proofs.alike.Tie as tie
 
-same-requires : tie.Need-same-requires
-same-requires c κs = search needs
-
 is-equal-requires : tie.Need-is-equal-requires
 is-equal-requires c κs = search needs
 
 returns : tie.Need-returns
-returns c = alike-same _ _ (c .before .before .same .ensures) (c .before .if1 .taken) (c .is-equal .ensures)
+returns c = alike-same _ (c .before .if1 .taken) (c .is-equal .ensures)
 
 returns-2 : tie.Need-returns-2
-returns-2 c = alike-open _ _ (c .before .same .ensures) (c .if1 .left)
+returns-2 c = alike-open _ (c .if1 .left)
 
 pub alike-spec : {M : Type 1} → statement M
 alike-spec =
     tie.close
     (tie.spec
-    same-requires
     is-equal-requires
     returns
     returns-2)

@@ -1,55 +1,40 @@
--- `rules::same_port` is whether the sums of two ports are the same, in order. Assumes nothing.
-use Prim.Native.Nat.{_-_}
-use mathlib.Core.Path.{_≡_}
+-- `rules::same_port` is whether the first sums written to a port are the same, in order. Assumes nothing.
+use Prim.Native.Nat.{_+_, _-_, _*_}
+use mathlib.Core.Path.{sym, _∙_}
 use native.Mathlib.Omega.{arith}
-use lib.ListN.{length, length-map}
-use Rattle.sum.specs.Packed.{termsOf, sameK}
-use Rattle.rules.proofs.Searching.{Pairwise, pair-start, pair-step, pair-broken, pair-end, noSum, ports-differ, ports-agree}
+use borrow.Author.Tests.{not-true, not-false}
+use Rattle.model.specs.Judgement.{all}
+use Rattle.sum.specs.Packed.{sameK}
+use Rattle.env.specs.Env.{sumAt}
+use Rattle.rules.proofs.Searching.{Left, left-start, all-step, all-broken, all-end, same-written}
 use borrow.Author.Needs.{needs}
 use Rattle.rules.proofs.same_port.Statement.{statement}
 use Rattle.rules.proofs.same_port.Tie as tie
 
 abbrev Inv-loop : tie.InvT-loop
-Inv-loop n m sums others i₀ i = Pairwise sameK termsOf n sums others i
+Inv-loop first second port n at i₀ i =
+    Left (all (λ k. sameK (sumAt first (16 * port + k)) (sumAt second (16 * port + k)))) 0 n i (n - i)
 
 abbrev μ-loop : tie.MeasureT-loop
-μ-loop n m sums others i₀ i = n - i
+μ-loop first second port n at i₀ i = n - i
 
-held-requires : tie.Need-held-requires Inv-loop μ-loop
-held-requires c κs = search needs
-
-held-requires-2 : tie.Need-held-requires-2 Inv-loop μ-loop
-held-requires-2 c κs = search needs
-
-returns : tie.Need-returns Inv-loop μ-loop
-returns c =
-    let h : length (c .before .before .before .args .first .sums) ≡ 16 = simp length-map at (c .before .before .before .good .0 .1 .1 .1 .0 .1 .0 .1) in
-    let k : length (c .before .before .before .args .second .sums) ≡ 16 = simp length-map at (c .before .before .before .good .1 .0 .1 .1 .1 .0 .1 .0 .1) in
-    ports-differ _ _ (c .before .before .held .ensures) (c .before .held2 .ensures) h k (c .if1 .taken)
+mul-at : tie.Need-mul-at Inv-loop μ-loop
+mul-at c = search needs
 
 loop-holds : tie.Need-loop-holds Inv-loop μ-loop
-loop-holds c =
-    let h : length (c .before .before .before .before .before .args .first .sums) ≡ 16 = simp length-map at (c .before .before .before .before .before .good .0 .1 .1 .1 .0 .1 .0 .1) in
-    let k : length (c .before .before .before .before .before .args .second .sums) ≡ 16 = simp length-map at (c .before .before .before .before .before .good .1 .0 .1 .1 .1 .0 .1 .0 .1) in
-    pair-start _ _ _ _ _ (omega (arith, c .before .before .before .before .held .ensures)) (omega (arith, c .before .before .before .before .held .ensures))
+loop-holds c = left-start _ _ _ (omega arith)
 
-mul-s : tie.Need-mul-s Inv-loop μ-loop
-mul-s c = search needs
+add-same : tie.Need-add-same Inv-loop μ-loop
+add-same c = search needs
 
-array-copy-out-s : tie.Need-array-copy-out-s Inv-loop μ-loop
-array-copy-out-s c = search needs
-
-mul-t : tie.Need-mul-t Inv-loop μ-loop
-mul-t c = search needs
-
-array-copy-out-t : tie.Need-array-copy-out-t Inv-loop μ-loop
-array-copy-out-t c = search needs
+add-same-2 : tie.Need-add-same-2 Inv-loop μ-loop
+add-same-2 c = search needs
 
 same-requires : tie.Need-same-requires Inv-loop μ-loop
 same-requires c κs = search needs
 
-returns-2 : tie.Need-returns-2 Inv-loop μ-loop
-returns-2 c = ports-agree _ _ (c .before .before .before .before .before .before .before .before .before .before .held .ensures) (c .before .before .before .before .before .before .before .before .before .held2 .ensures) (c .before .before .before .before .before .before .before .before .if1 .left) (pair-broken _ _ _ _ _ _ noSum (c .before .before .before .before .before .loop .inv) (c .before .before .before .before .loop-test .taken) (c .before .same .ensures) (c .if2 .taken))
+returns : tie.Need-returns Inv-loop μ-loop
+returns c = all-broken _ _ _ _ _ (c .before .before .before .before .before .loop .inv) (omega (arith, c .before .before .before .before .loop-test .taken)) (sym (c .before .same .ensures) ∙ not-true _ (c .if1 .taken)) ∙ same-written _ _ _ _
 
 add-i : tie.Need-add-i Inv-loop μ-loop
 add-i c = search needs
@@ -58,26 +43,22 @@ loop-less : tie.Need-loop-less Inv-loop μ-loop
 loop-less c = search needs
 
 loop-again : tie.Need-loop-again Inv-loop μ-loop
-loop-again c = pair-step _ _ _ _ _ _ noSum (c .before .before .before .before .before .loop .inv) (c .before .before .before .before .loop-test .taken) (c .before .same .ensures) (c .if2 .left)
+loop-again c = all-step _ _ _ _ _ (c .before .before .before .before .before .loop .inv) (omega (arith, c .before .before .before .before .loop-test .taken)) (sym (c .before .same .ensures) ∙ not-false _ (c .if1 .left))
 
-returns-3 : tie.Need-returns-3 Inv-loop μ-loop
-returns-3 c = ports-agree _ _ (c .before .before .before .before .before .before .held .ensures) (c .before .before .before .before .before .held2 .ensures) (c .before .before .before .before .if1 .left) (pair-end _ _ _ _ _ _ (c .before .loop .inv) (c .loop-test .left))
+returns-2 : tie.Need-returns-2 Inv-loop μ-loop
+returns-2 c = all-end _ _ _ _ _ (c .before .loop .inv) (omega (arith, c .loop-test .left)) ∙ same-written _ _ _ _
 
 pub same-port-spec : {M : Type 1} → statement M
 same-port-spec =
     tie.close
     (tie.spec Inv-loop μ-loop
-    held-requires
-    held-requires-2
-    returns
+    mul-at
     loop-holds
-    mul-s
-    array-copy-out-s
-    mul-t
-    array-copy-out-t
+    add-same
+    add-same-2
     same-requires
-    returns-2
+    returns
     add-i
     loop-less
     loop-again
-    returns-3)
+    returns-2)

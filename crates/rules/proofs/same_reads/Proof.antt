@@ -1,31 +1,42 @@
 -- `rules::same_reads` is whether the numbers of reads are the same on each port. Assumes nothing.
 use Prim.Native.Nat.{_-_}
+use mathlib.Core.Path.{_∙_}
+use native.Mathlib.Omega.{arith}
 use lib.Dec.{eqb}
-use Rattle.side.specs.Parts.{readsOn}
+use borrow.Author.Tests.{eq-eqb, ne-eqb}
+use Rattle.model.specs.Judgement.{all}
+use Rattle.side.specs.Parts.{countOn}
 use Rattle.rules.specs.Rules.{sameReadsIn}
-use Rattle.rules.proofs.Searching.{Ports, ports-start, ports-step, ports-broken, ports-end, reads-same, reads-other}
+use Rattle.rules.proofs.Searching.{Left, left-start, all-step, all-broken, all-end, all-ports}
 use borrow.Author.Needs.{needs}
 use Rattle.rules.proofs.same_reads.Statement.{statement}
 use Rattle.rules.proofs.same_reads.Tie as tie
 
 abbrev Inv-loop : tie.InvT-loop
-Inv-loop first second port₀ port = Ports (λ p. eqb (readsOn first p) (readsOn second p)) port
+Inv-loop first second port₀ port =
+    Left (all (λ p. eqb (countOn first p) (countOn second p))) 0 4 port (4 - port)
 
 abbrev μ-loop : tie.MeasureT-loop
 μ-loop first second port₀ port = 4 - port
 
 loop-holds : tie.Need-loop-holds Inv-loop μ-loop
-loop-holds c = ports-start _
+loop-holds c = left-start _ _ _ (omega arith)
 
-on-requires : tie.Need-on-requires Inv-loop μ-loop
-on-requires c κs = search needs
+mul-if1 : tie.Need-mul-if1 Inv-loop μ-loop
+mul-if1 c = search needs
 
-on-requires-2 : tie.Need-on-requires-2 Inv-loop μ-loop
-on-requires-2 c κs = search needs
+element-copy-out-if1 : tie.Need-element-copy-out-if1 Inv-loop μ-loop
+element-copy-out-if1 c = search needs
+
+mul-if1-2 : tie.Need-mul-if1-2 Inv-loop μ-loop
+mul-if1-2 c = search needs
+
+element-copy-out-if1-2 : tie.Need-element-copy-out-if1-2 Inv-loop μ-loop
+element-copy-out-if1-2 c = search needs
 
 returns : tie.Need-returns Inv-loop μ-loop
-unfolding sameReadsIn
-returns c = ports-broken _ _ (c .before .before .before .before .loop .inv) (c .before .before .before .loop-test .taken) (reads-other (c .before .before .on .ensures) (c .before .on2 .ensures) (c .if1 .taken))
+unfolding sameReadsIn countOn
+returns c = all-broken _ _ _ _ _ (c .before .before .before .before .loop .inv) (omega (arith, c .before .before .before .loop-test .taken)) (ne-eqb _ _ (c .if1 .taken)) ∙ all-ports _
 
 add-port : tie.Need-add-port Inv-loop μ-loop
 add-port c = search needs
@@ -34,19 +45,22 @@ loop-less : tie.Need-loop-less Inv-loop μ-loop
 loop-less c = search needs
 
 loop-again : tie.Need-loop-again Inv-loop μ-loop
-loop-again c = ports-step _ _ (c .before .before .before .before .loop .inv) (c .before .before .before .loop-test .taken) (reads-same (c .before .before .on .ensures) (c .before .on2 .ensures) (c .if1 .left))
+unfolding countOn
+loop-again c = all-step _ _ _ _ _ (c .before .before .before .before .loop .inv) (omega (arith, c .before .before .before .loop-test .taken)) (eq-eqb _ _ (c .if1 .left))
 
 returns-2 : tie.Need-returns-2 Inv-loop μ-loop
 unfolding sameReadsIn
-returns-2 c = ports-end _ _ (c .before .loop .inv) (c .loop-test .left)
+returns-2 c = all-end _ _ _ _ _ (c .before .loop .inv) (omega (arith, c .loop-test .left)) ∙ all-ports _
 
 pub same-reads-spec : {M : Type 1} → statement M
 same-reads-spec =
     tie.close
     (tie.spec Inv-loop μ-loop
     loop-holds
-    on-requires
-    on-requires-2
+    mul-if1
+    element-copy-out-if1
+    mul-if1-2
+    element-copy-out-if1-2
     returns
     add-port
     loop-less
