@@ -1,6 +1,6 @@
 -- Where choices lead from a state, edge by edge; and for rule 12, that a path of a covered pair is walkable. 01: "the target's first
 -- state ends the first path, and the second path is walkable to the target's second state". Assumes nothing.
-use Prim.Native.Nat.{ℕ, zero, suc, _-_, _/_, _%_, _≤_, _<_}
+use Prim.Native.Nat.{ℕ, suc, _-_, _/_, _%_, _≤_, _<_}
 use mathlib.Core.Path.{_≡_, refl, sym, _∙_, ap}
 use mathlib.Core.Logic.{_↔_}
 use mathlib.Core.Bool.{Bool, true, false, cond, _&&_}
@@ -16,7 +16,7 @@ use Rattle.model.proofs.Coverage.{covers-covered}
 use Rattle.table.specs.Checks.{stateRecord, edgeRecord}
 use Rattle.table.specs.declared.StateRecord.{StateRecord}
 use Rattle.table.specs.declared.EdgeRecord.{EdgeRecord}
-use Rattle.table.proofs.Decoding.{state-decoded}
+use Rattle.table.proofs.Decoding.{from-two, state-decoded}
 use Rattle.cover.specs.Ending.{reachedOf}
 use Rattle.cover.specs.declared.Reached.{Reached}
 use Rattle.cover.specs.declared.Reached.the-variants.{Stuck, At}
@@ -80,15 +80,11 @@ module _ (table : List ℕ) (l r f g : ℕ) (b : Bool) where
 
   left-true : (k : ℕ) → (k ≡ 0 → ⊥) → (k ≡ 1 → ⊥) → b ≡ true → At (edgeAt table f .target) ≡ Left (stateOf table k l r f g) b
   unfolding reachedOf stateOf allows edgeOn
-  left-true zero y z h = absurd (y refl)
-  left-true (suc zero) y z h = absurd (z refl)
-  left-true (suc (suc k)) y z h = rw h
+  left-true k y z h = rw (from-two k (omega arith), h)
 
   left-false : (k : ℕ) → (k ≡ 0 → ⊥) → (k ≡ 1 → ⊥) → b ≡ false → At (edgeAt table g .target) ≡ Left (stateOf table k l r f g) b
   unfolding reachedOf stateOf allows edgeOn
-  left-false zero y z h = absurd (y refl)
-  left-false (suc zero) y z h = absurd (z refl)
-  left-false (suc (suc k)) y z h = rw h
+  left-false k y z h = rw (from-two k (omega arith), h)
 
 -- One choice from a state that was read.
 

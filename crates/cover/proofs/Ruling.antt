@@ -2,19 +2,18 @@
 -- must have no path, and is then covered". Assumes nothing.
 use Prim.Native.Nat.{ℕ, zero, suc, _+_, _-_, _≤_}
 use mathlib.Core.Path.{_≡_, refl, sym, _∙_, ap}
-use mathlib.Core.Bool.{Bool, true, false}
+use mathlib.Core.Bool.{Bool, false}
 use mathlib.Core.List.{List, [], map}
 use native.Mathlib.Omega.{arith}
 use lib.Dec.{eqb}
 use borrow.Author.Tests.{eq-eqb, ne-eqb}
 use Rattle.model.specs.Answer.{sound, upTo}
-use Rattle.model.specs.Table.{stateOf, tableOf, tableFault}
-use Rattle.model.specs.Run.{isStop}
+use Rattle.model.specs.Table.{tableOf, tableFault}
 use Rattle.model.specs.Path.{choices, isNone, rule11}
 use Rattle.model.specs.Correspondence.{pathAt, listFault}
 use Rattle.table.specs.Checks.{stateRecord}
 use Rattle.table.specs.declared.StateRecord.{StateRecord}
-use Rattle.table.proofs.Decoding.{state-decoded, edges-begin}
+use Rattle.table.proofs.Decoding.{state-stops, state-goes, edges-begin}
 use Rattle.list.proofs.Decoding.{paths-begin}
 use Rattle.cover.specs.Visit.{visit, consumed, coveredBy}
 use Rattle.cover.specs.Nodes.{pathsIn, visitedOf, Placed, Offset}
@@ -23,18 +22,6 @@ use Rattle.cover.specs.declared.Visited.{Visited}
 use Rattle.cover.specs.declared.Visited.the-variants.{Failed, Next}
 use Rattle.cover.proofs.Visiting.{rule11-walk}
 use Rattle.cover.proofs.Stepping.{paths-none, paths-cons, visited-failed, visited-left}
-
--- Whether a state is a stop, by its kind.
-
-state-stop : (table : List ℕ) (k l r f g : ℕ) → k ≡ 0 → isStop (stateOf table k l r f g) ≡ true
-unfolding stateOf isStop
-state-stop table k l r f g z = rw z
-
-state-moves : (table : List ℕ) (k l r f g : ℕ) → (k ≡ 0 → ⊥) → isStop (stateOf table k l r f g) ≡ false
-unfolding stateOf isStop
-state-moves table zero l r f g z = absurd (z refl)
-state-moves table (suc zero) l r f g z = refl
-state-moves table (suc (suc k)) l r f g z = refl
 
 -- No path is left exactly where the next one is the end.
 none-left : (list : List ℕ) (next end : ℕ) → next ≤ end → eqb next end ≡ isNone (pathsIn list next end)
@@ -74,16 +61,12 @@ module _ (table list : List ℕ) (s first count : ℕ) where
   module _ {here : StateRecord} (state : here ≡ stateRecord table s) where
     pub stop-ruled : here .kind ≡ 0 → eqb count 0 ≡ Ruled
     unfolding rule11
-    stop-ruled z =
-        let stops : isStop (tableOf table s) ≡ true = ap isStop (state-decoded table s state) ∙ state-stop table _ _ _ _ _ z in
-        rw stops (none-listed list first count)
+    stop-ruled z = rw (state-stops table s state z) (none-listed list first count)
 
     module _ (moves : here .kind ≡ 0 → ⊥) where
       by-visit : Ruled ≡ consumed (visit (tableOf table) 32 s [] (pathsIn list first (first + count)))
       unfolding coveredBy
-      by-visit =
-          let no-stop : isStop (tableOf table s) ≡ false = ap isStop (state-decoded table s state) ∙ state-moves table _ _ _ _ _ moves in
-          by-walk ∙ (rw no-stop)
+      by-visit = by-walk ∙ (rw (state-goes table s state moves))
 
       module _ {v : Visited} (e : v ≡ visitedOf (first + count) (visit (tableOf table) (32 - 0) s (choices 0 0) (pathsIn list first (first + count)))) where
         pub failed-ruled : v ≡ Failed → false ≡ Ruled

@@ -7,7 +7,6 @@ use mathlib.Core.Bool.{Bool, true, false}
 use mathlib.Core.List.{List, [], _∷_, _++_, map, cons≢nil}
 use mathlib.Core.Option.{Option, none, some}
 use native.Mathlib.Omega.{arith}
-use native.Mathlib.Nat.{pow-suc, pow-le-pow-right}
 use lib.ListN.{length}
 use Rattle.model.specs.Answer.{word}
 use Rattle.model.specs.Table.{State, test, Table, Edge, edgeAt, edgesAt, stateOf, tableOf}
@@ -17,10 +16,11 @@ use Rattle.fault.proofs.Along.{upTo-cons, upTo-none}
 use Rattle.table.specs.Checks.{stateRecord, edgeRecord}
 use Rattle.table.specs.declared.StateRecord.{StateRecord}
 use Rattle.table.specs.declared.EdgeRecord.{EdgeRecord}
-use Rattle.table.proofs.Decoding.{state-decoded, edge-decoded}
+use Rattle.table.proofs.Decoding.{from-two, state-decoded, edge-decoded}
 use Rattle.list.specs.Checks.{pathRecord}
 use Rattle.list.specs.declared.PathRecord.{PathRecord}
 use Rattle.list.proofs.Decoding.{path-decoded}
+use Rattle.list.proofs.Fields.{power-bound, power-step}
 use Rattle.cover.specs.Visit.{after, away, ends, goesOn, standsBy, standing, visitBy, onward, visitOf, visit}
 use Rattle.cover.specs.Nodes.{pathsIn, visitedOf, Placed, falseNode, trueNode, Offset}
 use Rattle.cover.specs.declared.Node.{Node}
@@ -128,15 +128,11 @@ has-below placed higher = omega (arith, placed .depth)
 
 module _ {node : Node} (placed : Placed node) (deeper : node .depth < 32) where
   power-twice : node .unit * 2 ≡ 2 ^ (node .depth + 1)
-  power-twice =
-      let z : node .depth + 1 ≡ suc (node .depth) = omega arith in
-      ap (λ x. x * 2) (placed .unit) ∙ sym (pow-suc 2 (node .depth)) ∙ ap (λ x. 2 ^ x) (sym z)
+  power-twice = power-step (node .depth) (placed .unit)
 
   -- A node's unit is at most 2 to the power 31 where a node is below.
   pub unit-bound : node .unit ≤ 2 ^ 31
-  unit-bound =
-      let b : 2 ^ node .depth ≤ 2 ^ 31 = pow-le-pow-right {n = 2} (omega arith) {i = node .depth} {j = 31} (omega arith) in
-      omega (arith, placed .unit)
+  unit-bound = power-bound (node .depth) deeper (placed .unit)
 
   pub placed-false : (s : ℕ) {below : Node} → below ≡ falseNode node s → Placed below
   unfolding falseNode
@@ -201,14 +197,7 @@ module _ (table : List ℕ) (k l r f g : ℕ) (on : ℕ → List Bool → List (
       → visitOf (stateOf table k l r f g) on led ps
       ≡ onward (on (edgeAt table f .target) (led ++ (true ∷ [])) ps) (on (edgeAt table g .target) (led ++ (false ∷ [])))
   unfolding stateOf visitOf
-  below-test y z = by k y z
-    where
-      by : (k : ℕ) → (k ≡ 0 → ⊥) → (k ≡ 1 → ⊥)
-          → visitOf (stateOf table k l r f g) on led ps
-          ≡ onward (on (edgeAt table f .target) (led ++ (true ∷ [])) ps) (on (edgeAt table g .target) (led ++ (false ∷ [])))
-      by zero y z = absurd (y refl)
-      by (suc zero) y z = absurd (z refl)
-      by (suc (suc k)) y z = refl
+  below-test y z = rw (from-two k (omega arith))
 
 -- The target of an edge, read from where the edges begin.
 pub edge-target : (table : List ℕ) (i : ℕ) {at : ℕ} {edge : EdgeRecord} → at ≡ edgesAt table → edge ≡ edgeRecord table at i → edgeAt table i .target ≡ edge .target

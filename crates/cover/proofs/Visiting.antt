@@ -8,7 +8,7 @@ use mathlib.Core.Option.{Option, none, some}
 use native.Mathlib.Omega.{arith}
 use Rattle.model.specs.Table.{State, stop, step, test, Table}
 use Rattle.model.specs.Path.{isNone, trueSide, behind, allFalse, coversOf, covers, rule11}
-use Rattle.model.proofs.Basics.{clash, and-left, and-right, and-both, beq-same, beq-true}
+use Rattle.model.proofs.Basics.{clash, and-left, and-right, and-both, beq-same, beq-true, same-tests}
 use Rattle.cover.specs.Visit.{after, Standing, away, ends, goesOn, standsBy, standing, visitBy, onward, visitOf, visit, consumed, coveredBy}
 
 -- Paths by their choices.
@@ -304,12 +304,6 @@ visit-says t n s ps = (
       ap (covers t n s) (v .whole ∙ from-none (v .paths)) ∙ v .passed,
   λ h. ap (visit t n s []) (sym (from-none ps)) ∙ covers-visit t n s [] ps [] h,
 )
-
--- Two tests of which each follows from the other are the same.
-same-tests : (a b : Bool) → (a ≡ true → b ≡ true) → (b ≡ true → a ≡ true) → a ≡ b
-same-tests true b f g = sym (f refl)
-same-tests false true f g = g refl
-same-tests false false f g = refl
 
 -- All paths are consumed where none is left over.
 consumed-says : (v : Option Paths) → (consumed v ≡ true → v ≡ some []) × (v ≡ some [] → consumed v ≡ true)

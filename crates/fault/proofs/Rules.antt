@@ -1,13 +1,13 @@
 -- Rules of a record, decided in code: where all facts hold the rules are kept, where they cannot all hold they are not; and what then
 -- is answered; and what holds of a word that was read holds of the image's. Assumes nothing.
 use Prim.Native.Nat.{ℕ, _≤_, _<_}
-use mathlib.Core.Path.{_≡_, refl, sym, _∙_}
+use mathlib.Core.Path.{_≡_, refl, sym, _∙_, ap}
 use mathlib.Core.Bool.{Bool, true, false}
 use mathlib.Core.List.{List, [], _∷_}
 use native.Mathlib.Omega.{arith}
 use borrow.Author.Tests.{le-leb, lt-ltb, eq-eqb}
-use Rattle.model.specs.Answer.{Reason, wrongTable, Fault, sound, broken, numberOf, _then_, Rule, le, lt, is, so, kept, allKept, check}
-use Rattle.model.proofs.Basics.{Fact, Facts, and-both, check-facts}
+use Rattle.model.specs.Answer.{Reason, Fault, sound, broken, numberOf, _then_, Rule, le, lt, is, so, kept, allKept, check}
+use Rattle.model.proofs.Basics.{Fact, Facts, facts, and-both}
 use Rattle.fault.specs.Fault.{checkedOf}
 use Rattle.fault.specs.declared.Checked.{Checked}
 use Rattle.fault.specs.declared.Checked.the-variants.{Sound, Broken}
@@ -24,15 +24,11 @@ unfolding allKept
 keep-all [] h = refl
 keep-all (r ∷ rs) h = and-both (keep r (h .0)) (keep-all rs (h .1))
 
-facts-of : (rs : List Rule) → allKept rs ≡ true → Facts rs
-unfolding check
-facts-of rs e = check-facts wrongTable 0 rs (rw e)
-
 pub all-kept : (rs : List Rule) → Facts rs → true ≡ allKept rs
 all-kept rs h = sym (keep-all rs h)
 
 not-kept-if : (b : Bool) (rs : List Rule) → allKept rs ≡ b → (Facts rs → ⊥) → false ≡ b
-not-kept-if true rs e k = absurd (k (facts-of rs e))
+not-kept-if true rs e k = absurd (k (facts rs e))
 not-kept-if false rs e k = refl
 
 pub not-kept : (rs : List Rule) → (Facts rs → ⊥) → false ≡ allKept rs
@@ -46,7 +42,7 @@ decided false rs h k = not-kept rs (k refl)
 -- What the rules of a record answer.
 
 pub facts-kept : {b : Bool} (rs : List Rule) → b ≡ allKept rs → b ≡ true → Facts rs
-facts-kept rs e h = facts-of rs (cc)
+facts-kept rs e h = facts rs (cc)
 
 pub check-kept : {b : Bool} (n : Reason) (i : ℕ) (rs : List Rule) → b ≡ allKept rs → b ≡ true → check n i rs ≡ sound
 unfolding check
@@ -76,6 +72,22 @@ pub first-sound : {r : Checked} (f g : Fault) → r ≡ checkedOf f → r ≡ So
 unfolding checkedOf _then_
 first-sound sound g e k = refl
 first-sound (broken m j) g e k = absurd (let z : _≡_ {A = ℕ} 0 1 = cc in omega arith)
+
+-- The first of three findings: the first breaks, the second does behind a sound first, or the third is the answer.
+
+module _ (f g h : Fault) {t : Fault} (all : t ≡ (f then g then h)) {c : Checked} (e : c ≡ checkedOf f) where
+  pub first-of-three : {n i : ℕ} → c ≡ Broken n i → Broken n i ≡ checkedOf t
+  first-of-three q = first-broken f (g then h) e q ∙ sym (ap checkedOf all)
+
+  module _ (q : c ≡ Sound) {d : Checked} (k : d ≡ checkedOf g) where
+    behind-first : t ≡ (g then h)
+    behind-first = all ∙ first-sound f (g then h) e q
+
+    pub second-of-three : {n i : ℕ} → d ≡ Broken n i → Broken n i ≡ checkedOf t
+    second-of-three u = first-broken g h k u ∙ sym (ap checkedOf behind-first)
+
+    pub third-of-three : {r : Checked} → d ≡ Sound → r ≡ checkedOf h → r ≡ checkedOf t
+    third-of-three u v = v ∙ sym (ap checkedOf (behind-first ∙ first-sound g h k u))
 
 pub is-sound : {r : Checked} (f : Fault) → r ≡ checkedOf f → r ≡ Sound → f ≡ sound
 unfolding checkedOf

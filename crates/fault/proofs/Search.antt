@@ -32,7 +32,7 @@ member-one v x e = rw (e, or-false (eqb v x))
 
 -- Whether a list of one number, or of none, is apart from a list.
 
-and-true : (b : Bool) → (b && true) ≡ b
+pub and-true : (b : Bool) → (b && true) ≡ b
 and-true true = refl
 and-true false = refl
 

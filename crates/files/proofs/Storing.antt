@@ -12,7 +12,7 @@ use borrow.Author.Tests.{leb-true, le-leb, lt-leb}
 use Rattle.files.specs.Files.{placed, wordsOf, byFit, takenOf, filledOf, lentOf}
 use Rattle.files.specs.Lines.{Front, fits, behind, appended}
 use Rattle.files.specs.declared.Taken.{Taken}
-use Rattle.files.specs.declared.Taken.the-variants.{Whole, Ragged, TooLong}
+use Rattle.files.specs.declared.Taken.the-variants.{Whole}
 use Rattle.files.proofs.Bytes.{length-words, taken-whole}
 use Rattle.files.proofs.Print.{placed-more}
 
@@ -119,6 +119,17 @@ filled-by bytes out false b p q = rw p refl
 pub filled-length : (bytes out : List ℕ) → length (filledOf bytes out) ≡ length out
 filled-length bytes out = filled-by bytes out (eqb (length bytes % 4) 0) (leb (length bytes / 4) (length out)) refl refl
 
+-- The number of words that is lent is the one that the answer says, where the buffer has so many.
+pub lent : (other : ℕ) (bytes out : List ℕ) {n : ℕ} {out′ : List ℕ} {t : Taken}
+    → lentOf other t ≡ n
+    → t ≡ takenOf bytes (length out)
+    → out′ ≡ filledOf bytes out
+    → n ≤ length out
+    → Lent other bytes out n out′
+lent other bytes out {n} {out′} e f g h =
+    let k : length out′ ≡ length out = ap length g ∙ filled-length bytes out in
+    (sym e ∙ ap (lentOf other) f, (g, front n out′ (omega arith)))
+
 -- Words that were taken are lent.
 pub lent-whole : (other : ℕ) (bytes out : List ℕ) {n : ℕ} {out′ : List ℕ} {t : Taken}
     → t ≡ Whole n
@@ -126,36 +137,5 @@ pub lent-whole : (other : ℕ) (bytes out : List ℕ) {n : ℕ} {out′ : List �
     → out′ ≡ filledOf bytes out
     → Lent other bytes out n out′
 unfolding lentOf
-lent-whole other bytes out {n} {out′} e f g =
-    let h : takenOf bytes (length out) ≡ Whole n = sym f ∙ e in
-    let k : length out′ ≡ length out = ap length g ∙ filled-length bytes out in
-    (rw h refl, (g, front n out′ (omega (arith, k, taken-whole bytes (length out) n h .2))))
-
--- Where no words were taken, the other number is lent.
-
-other-lent : (other : ℕ) (bytes out : List ℕ) {out′ : List ℕ}
-    → other ≡ lentOf other (takenOf bytes (length out))
-    → out′ ≡ filledOf bytes out
-    → other ≤ length out
-    → Lent other bytes out other out′
-other-lent other bytes out {out′} e g h =
-    let k : length out′ ≡ length out = ap length g ∙ filled-length bytes out in
-    (e, (g, front other out′ (omega arith)))
-
-pub lent-ragged : (other : ℕ) (bytes out : List ℕ) {out′ : List ℕ} {t : Taken}
-    → t ≡ Ragged
-    → t ≡ takenOf bytes (length out)
-    → out′ ≡ filledOf bytes out
-    → other ≤ length out
-    → Lent other bytes out other out′
-unfolding lentOf
-lent-ragged other bytes out e f g h = other-lent other bytes out (rw (sym f ∙ e) refl) g h
-
-pub lent-long : (other : ℕ) (bytes out : List ℕ) {out′ : List ℕ} {t : Taken}
-    → t ≡ TooLong
-    → t ≡ takenOf bytes (length out)
-    → out′ ≡ filledOf bytes out
-    → other ≤ length out
-    → Lent other bytes out other out′
-unfolding lentOf
-lent-long other bytes out e f g h = other-lent other bytes out (rw (sym f ∙ e) refl) g h
+lent-whole other bytes out {n} e f g =
+    lent other bytes out (ap (lentOf other) e) f g (taken-whole bytes (length out) n (sym f ∙ e) .2)

@@ -9,20 +9,21 @@ use lib.Dec.{eqb}
 use Rattle.model.specs.Answer.{sound, upTo, word}
 use Rattle.model.specs.Table.{distinct}
 use Rattle.model.specs.Path.{choices}
-use Rattle.model.specs.Correspondence.{Link, pairs, links, paths, linksAt, pathsAt, listRules, linkAt, linkFault, pathWord, sideRules, markRules, pathFault, pathAt, pairWord, pairAt, resetRules, pairFault, listFault}
+use Rattle.model.specs.Correspondence.{Link, Path, Pair, pairs, links, paths, linksAt, pathsAt, listRules, linkAt, linkFault, pathWord, sideRules, markRules, pathFault, pathAt, pairWord, pairAt, resetRules, pairFault, listFault}
 use Rattle.model.proofs.Basics.{then-first, then-second, record-sound, Facts, check-facts}
 use Rattle.table.proofs.Decoding.{first-word}
 use Rattle.list.specs.Checks.{linkRecord, pathRecord, pairRecord, secondsIn}
 use Rattle.list.specs.declared.LinkRecord.{LinkRecord}
 use Rattle.list.specs.declared.PathRecord.{PathRecord}
 use Rattle.list.specs.declared.PairRecord.{PairRecord}
+use Rattle.list.proofs.Header.{links-from, paths-from}
 
--- A path's record by its words, and a pair's.
+-- A path's record by its first word and its others, and a pair's.
 
-abbrev pub pathWords : List ℕ → ℕ → PathRecord
-pathWords list i =
+abbrev pub pathWords : List ℕ → ℕ → ℕ → PathRecord
+pathWords list i x =
     record {
-      length = pathWord list i 0;
+      length = x;
       choices = pathWord list i 1;
       «second_length» = pathWord list i 2;
       «second_choices» = pathWord list i 3;
@@ -30,10 +31,10 @@ pathWords list i =
       mark = pathWord list i 5;
     }
 
-abbrev pub pairWords : List ℕ → ℕ → PairRecord
-pairWords list i =
+abbrev pub pairWords : List ℕ → ℕ → ℕ → PairRecord
+pairWords list i x =
     record {
-      first = pairWord list i 0;
+      first = x;
       second = pairWord list i 1;
       link = pairWord list i 2;
       links = pairWord list i 3;
@@ -41,86 +42,59 @@ pairWords list i =
       paths = pairWord list i 5;
     }
 
+-- The link, the path and the pair that a record's fields say.
+
+abbrev pub linkRead : LinkRecord → Link
+linkRead r = record { first = r .first; second = r .second }
+
+abbrev pub pathRead : ℕ → PathRecord → Path
+pathRead i r =
+    record {
+      index = i;
+      first = choices (r .length) (r .choices);
+      second = choices (r .«second_length») (r .«second_choices»);
+      target = r .target;
+      impossible = eqb (r .mark) 1;
+    }
+
+abbrev pub pairRead : List ℕ → PairRecord → Pair
+pairRead list r =
+    record {
+      first = r .first;
+      second = r .second;
+      links = map (linkAt list) (upTo (r .link) (r .links));
+      paths = map (pathAt list) (upTo (r .path) (r .paths));
+    }
+
 module _ (list : List ℕ) (i : ℕ) {at : ℕ} where
   -- A link, read from where the links begin.
-  pub link-decoded : {r : LinkRecord} → at ≡ linksAt list → r ≡ linkRecord list at i → linkAt list i ≡ record { first = r .first; second = r .second }
+  pub link-decoded : {r : LinkRecord} → at ≡ linksAt list → r ≡ linkRecord list at i → linkAt list i ≡ linkRead r
   unfolding linkAt linkRecord
-  link-decoded p e =
-      sym (ap (λ r. record { first = r .first; second = r .second }) (e ∙ (λ j. linkRecord list (p j) i)))
+  link-decoded p e = sym (ap linkRead (e ∙ (λ j. linkRecord list (p j) i)))
 
   -- A path, read from where the paths begin.
 
-  pub path-words : {r : PathRecord} → at ≡ pathsAt list → r ≡ pathRecord list at i → r ≡ pathWords list i
+  pub path-words : {r : PathRecord} → at ≡ pathsAt list → r ≡ pathRecord list at i → r ≡ pathWords list i (pathWord list i 0)
   unfolding pathRecord pathWord
   path-words p e =
       e
       ∙ (λ j. pathRecord list (p j) i)
-      ∙ (λ j. record {
-        length = first-word list (pathsAt list + 6 * i) j;
-        choices = pathWord list i 1;
-        «second_length» = pathWord list i 2;
-        «second_choices» = pathWord list i 3;
-        target = pathWord list i 4;
-        mark = pathWord list i 5;
-      })
+      ∙ ap (pathWords list i) (first-word list (pathsAt list + 6 * i))
 
-  pub path-decoded : {r : PathRecord} → at ≡ pathsAt list → r ≡ pathRecord list at i
-      → pathAt list i
-      ≡ record {
-        index = i;
-        first = choices (r .length) (r .choices);
-        second = choices (r .«second_length») (r .«second_choices»);
-        target = r .target;
-        impossible = eqb (r .mark) 1;
-      }
+  pub path-decoded : {r : PathRecord} → at ≡ pathsAt list → r ≡ pathRecord list at i → pathAt list i ≡ pathRead i r
   unfolding pathAt
-  path-decoded p e =
-      sym
-      (ap
-      (λ r. record {
-        index = i;
-        first = choices (r .length) (r .choices);
-        second = choices (r .«second_length») (r .«second_choices»);
-        target = r .target;
-        impossible = eqb (r .mark) 1;
-      })
-      (path-words p e))
+  path-decoded p e = sym (ap (pathRead i) (path-words p e))
 
 module _ (list : List ℕ) (i : ℕ) where
   -- A pair.
 
-  pub pair-words : {r : PairRecord} → r ≡ pairRecord list i → r ≡ pairWords list i
+  pub pair-words : {r : PairRecord} → r ≡ pairRecord list i → r ≡ pairWords list i (pairWord list i 0)
   unfolding pairRecord pairWord
-  pair-words e =
-      e
-      ∙ (λ j. record {
-        first = first-word list (8 + 6 * i) j;
-        second = pairWord list i 1;
-        link = pairWord list i 2;
-        links = pairWord list i 3;
-        path = pairWord list i 4;
-        paths = pairWord list i 5;
-      })
+  pair-words e = e ∙ ap (pairWords list i) (first-word list (8 + 6 * i))
 
-  pub pair-decoded : {r : PairRecord} → r ≡ pairRecord list i
-      → pairAt list i
-      ≡ record {
-        first = r .first;
-        second = r .second;
-        links = map (linkAt list) (upTo (r .link) (r .links));
-        paths = map (pathAt list) (upTo (r .path) (r .paths));
-      }
+  pub pair-decoded : {r : PairRecord} → r ≡ pairRecord list i → pairAt list i ≡ pairRead list r
   unfolding pairAt
-  pair-decoded e =
-      sym
-      (ap
-      (λ r. record {
-        first = r .first;
-        second = r .second;
-        links = map (linkAt list) (upTo (r .link) (r .links));
-        paths = map (pathAt list) (upTo (r .path) (r .paths));
-      })
-      (pair-words e))
+  pair-decoded e = sym (ap (pairRead list) (pair-words e))
 
 -- The second variables of a range of links.
 pub seconds-decoded : (list : List ℕ) {at : ℕ} → at ≡ linksAt list → (i n : ℕ)
@@ -198,12 +172,10 @@ module _ (m n : ℕ) (list : List ℕ) (passed : listFault m n list ≡ sound) w
   header-facts = check-facts _ _ (listRules list) (then-first _ _ passed)
 
   pub links-begin : word list 5 ≡ linksAt list
-  unfolding listRules
-  links-begin = header-facts .1 .1 .1 .1 .1 .1 .0
+  links-begin = links-from list header-facts
 
   pub paths-begin : word list 7 ≡ pathsAt list
-  unfolding listRules
-  paths-begin = header-facts .1 .1 .1 .1 .1 .1 .1 .1 .0
+  paths-begin = paths-from list header-facts
 
   -- The counts: 1 to 64 pairs, at most 1,024 links and 512 paths.
   pub counts : (1 ≤ pairs list) × ((pairs list ≤ 64) × ((links list ≤ 1024) × (paths list ≤ 512)))
@@ -241,17 +213,3 @@ module _ (m n : ℕ) (list : List ℕ) (passed : listFault m n list ≡ sound) w
           reset = reset-kept i _ _ (f .1 .1 .1 .1);
           once = check-facts _ _ _ (then-second _ _ s) .0;
         })
-
-    pub link-is : {r : LinkRecord} → r ≡ linkRecord list (word list 5) i → linkAt list i ≡ record { first = r .first; second = r .second }
-    link-is e = link-decoded list i links-begin e
-
-    pub path-is : {r : PathRecord} → r ≡ pathRecord list (word list 7) i
-        → pathAt list i
-        ≡ record {
-          index = i;
-          first = choices (r .length) (r .choices);
-          second = choices (r .«second_length») (r .«second_choices»);
-          target = r .target;
-          impossible = eqb (r .mark) 1;
-        }
-    path-is e = path-decoded list i paths-begin e

@@ -32,11 +32,15 @@ module _ (link : LinkRecord) where
 
 -- 2 to the power n, by doubling.
 
--- A power that is doubled fits 64 bits.
-pub power-fits : (n i : ℕ) {r : ℕ} → n ≤ 32 → i < n → r ≡ 2 ^ i → r * 2 < 2 ^ 64
-power-fits n i {r} h k e =
+-- A power before the 32nd is at most the 31st.
+pub power-bound : (i : ℕ) {r : ℕ} → i < 32 → r ≡ 2 ^ i → r ≤ 2 ^ 31
+power-bound i h e =
     let b : 2 ^ i ≤ 2 ^ 31 = pow-le-pow-right {n = 2} (omega arith) {i = i} {j = 31} (omega arith) in
     omega arith
+
+-- A power that is doubled fits 64 bits.
+pub power-fits : (n i : ℕ) {r : ℕ} → n ≤ 32 → i < n → r ≡ 2 ^ i → r * 2 < 2 ^ 64
+power-fits n i h k e = omega (arith, power-bound i (omega arith) e)
 
 pub power-step : (i : ℕ) {r : ℕ} → r ≡ 2 ^ i → r * 2 ≡ 2 ^ (i + 1)
 power-step i {r} e =
@@ -119,6 +123,12 @@ module _ (pairs : ℕ) (path : PathRecord) {b : Bool} (own : b ≡ allKept (side
 
 -- A pair's own fields.
 
+-- A range that is found not to fit ends past the area's count.
+pub range-over : {b : Bool} (end count : ℕ) → b ≡ leb end count → b ≡ false → end ≤ count → ⊥
+range-over end count e h k =
+    let q : leb end count ≡ false = cc in
+    omega (arith, leb-false end count q)
+
 module _ (limits : Limits) (pair : PairRecord) (i : ℕ) where
   pub pair-refused :
       (pair .first < limits .first → pair .second < limits .second → pair .link + pair .links ≤ limits .links → pair .path + pair .paths ≤ limits .paths → ⊥)
@@ -132,16 +142,6 @@ module _ (limits : Limits) (pair : PairRecord) (i : ℕ) where
       ∷ le (pair .path + pair .paths) (limits .paths)
       ∷ resetRules i (pair .first) (pair .second))
       (λ v. g (v .0) (v .1 .0) (v .1 .1 .0) (v .1 .1 .1 .0))
-
-  pub links-over : {b : Bool} → b ≡ leb (pair .link + pair .links) (limits .links) → b ≡ false → false ≡ allKept (pairRules limits pair i)
-  links-over e h =
-      let q : leb (pair .link + pair .links) (limits .links) ≡ false = cc in
-      pair-refused (λ f s l p. omega (arith, leb-false (pair .link + pair .links) (limits .links) q))
-
-  pub paths-over : {b : Bool} → b ≡ leb (pair .path + pair .paths) (limits .paths) → b ≡ false → false ≡ allKept (pairRules limits pair i)
-  paths-over e h =
-      let q : leb (pair .path + pair .paths) (limits .paths) ≡ false = cc in
-      pair-refused (λ f s l p. omega (arith, leb-false (pair .path + pair .paths) (limits .paths) q))
 
   pub pair-other : pair .first < limits .first → pair .second < limits .second → pair .link + pair .links ≤ limits .links
       → pair .path + pair .paths ≤ limits .paths → (i ≡ 0 → ⊥) → true ≡ allKept (pairRules limits pair i)

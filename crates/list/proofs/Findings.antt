@@ -6,13 +6,13 @@ use mathlib.Core.Bool.{Bool, true, false}
 use mathlib.Core.List.{List, [], _∷_}
 use Rattle.model.specs.Answer.{Reason, Fault, sound, numberOf, _then_, firstOf, upTo, Rule, so, allKept, check, word, wrongList, wrongLink, wrongPath, wrongPair}
 use Rattle.model.specs.Table.{distinct}
-use Rattle.model.specs.Correspondence.{pairs, links, paths, linksAt, pathsAt, listRules, linkAt, linkFault, pathFault, pairWord, pairAt, pairFault, listFault}
+use Rattle.model.specs.Correspondence.{pairs, links, paths, listRules, linkAt, linkFault, pathFault, pairWord, pairAt, pairFault, listFault}
 use Rattle.model.proofs.Basics.{Facts}
 use Rattle.fault.specs.Fault.{checkedOf}
-use Rattle.fault.specs.declared.Checked.{Checked}
 use Rattle.fault.specs.declared.Checked.the-variants.{Sound, Broken}
-use Rattle.fault.proofs.Rules.{facts-kept, check-kept, refused, passed, first-broken, first-sound, then-sound, so-kept}
+use Rattle.fault.proofs.Rules.{facts-kept, check-kept, refused, passed, then-sound, so-kept}
 use Rattle.list.specs.Checks.{linkRecord, pathRecord, pairRecord, limitsOf, linkRules, pathRules, pairRules, secondsIn, faultIn}
+use Rattle.list.proofs.Header.{links-from, paths-from}
 use Rattle.list.proofs.Decoding.{pairWords, pair-words, path-words, seconds-decoded}
 use Rattle.list.specs.declared.Area.the-variants.{Links, Paths, Pairs}
 use Rattle.list.specs.declared.LinkRecord.{LinkRecord}
@@ -90,21 +90,13 @@ module _ (limits : Limits) (list : List ℕ) (i : ℕ) where
 -- Where the header is right, what the records are held to is what the model holds them to.
 
 module _ (m n : ℕ) (list : List ℕ) (header : Facts (listRules list)) where
-  links-begin : word list 5 ≡ linksAt list
-  unfolding listRules
-  links-begin = header .1 .1 .1 .1 .1 .1 .0
-
-  paths-begin : word list 7 ≡ pathsAt list
-  unfolding listRules
-  paths-begin = header .1 .1 .1 .1 .1 .1 .1 .1 .0
-
   same-link : (i : ℕ) → faultIn Links (limitsOf m n list) list i ≡ linkFault list i
   unfolding faultIn limitsOf linkRules linkRecord linkFault linkAt
-  same-link i = rw links-begin
+  same-link i = rw (links-from list header)
 
   same-path : (i : ℕ) → faultIn Paths (limitsOf m n list) list i ≡ pathFault list i
   unfolding faultIn limitsOf pathRules pathFault pairs
-  same-path i = ap (λ p. check wrongPath i (pathRules (word list 2) p)) (path-words list i paths-begin refl)
+  same-path i = ap (λ p. check wrongPath i (pathRules (word list 2) p)) (path-words list i (paths-from list header) refl)
 
   same-pair : (i : ℕ) → faultIn Pairs (limitsOf m n list) list i ≡ pairFault m n list i
   unfolding faultIn limitsOf pairRules pairFault pairAt links paths
@@ -114,63 +106,31 @@ module _ (m n : ℕ) (list : List ℕ) (header : Facts (listRules list)) where
       then check wrongPair i (so (distinct (secondsIn list (word list 5) (p .link) (p .links))) ∷ []))
       (pair-words list i refl)
       ∙ ap
-      (λ l. check wrongPair i (pairRules (limitsOf m n list) (pairWords list i) i) then check wrongPair i (so (distinct l) ∷ []))
-      (seconds-decoded list links-begin (pairWord list i 2) (pairWord list i 3))
+      (λ l. check wrongPair i (pairRules (limitsOf m n list) (pairWords list i (pairWord list i 0)) i) then check wrongPair i (so (distinct l) ∷ []))
+      (seconds-decoded list (links-from list header) (pairWord list i 2) (pairWord list i 3))
 
 -- The correspondence.
+
+-- What is found along the links, the paths and the pairs.
+abbrev pub areasFault : Limits → List ℕ → Fault
+areasFault limits list =
+    firstOf (faultIn Links limits list) (upTo 0 (limits .links))
+    then firstOf (faultIn Paths limits list) (upTo 0 (limits .paths))
+    then firstOf (faultIn Pairs limits list) (upTo 0 (limits .pairs))
 
 module _ (m n : ℕ) (list : List ℕ) {b : Bool} (header : b ≡ allKept (listRules list)) where
   pub header-broken : b ≡ false → Broken 6 0 ≡ checkedOf (listFault m n list)
   unfolding listFault numberOf
-  header-broken h =
-      refused wrongList 0 (listRules list)
-      (firstOf (linkFault list) (upTo 0 (links list))
-      then firstOf (pathFault list) (upTo 0 (paths list))
-      then firstOf (pairFault m n list) (upTo 0 (pairs list)))
-      header h
+  header-broken h = refused wrongList 0 (listRules list) _ header h
 
-  module _ {limits : Limits} (sound-header : b ≡ true) (read : limits ≡ limitsOf m n list) where
-    -- What is found along the links, the paths and the pairs.
-
-    abbrev alongLinks : Fault
-    alongLinks = firstOf (faultIn Links limits list) (upTo 0 (limits .links))
-
-    abbrev alongPaths : Fault
-    alongPaths = firstOf (faultIn Paths limits list) (upTo 0 (limits .paths))
-
-    abbrev alongPairs : Fault
-    alongPairs = firstOf (faultIn Pairs limits list) (upTo 0 (limits .pairs))
-
-    -- What is found in the correspondence is what is found along its areas, with the counts as they were read.
-    areas : listFault m n list ≡ (alongLinks then alongPaths then alongPairs)
-    unfolding listFault limitsOf pairs links paths
-    areas =
-        let facts = facts-kept (listRules list) header sound-header in
-        passed wrongList 0 (listRules list)
-        (firstOf (linkFault list) (upTo 0 (links list))
-        then firstOf (pathFault list) (upTo 0 (paths list))
-        then firstOf (pairFault m n list) (upTo 0 (pairs list)))
-        header sound-header
-        ∙ sym
-        (λ j. firstOf (λ i. same-link m n list facts i j) (upTo 0 (links list))
-        then firstOf (λ i. same-path m n list facts i j) (upTo 0 (paths list))
-        then firstOf (λ i. same-pair m n list facts i j) (upTo 0 (pairs list)))
-        ∙ sym
-        (ap
-        (λ (l : Limits). firstOf (faultIn Links l list) (upTo 0 (l .links))
-        then firstOf (faultIn Paths l list) (upTo 0 (l .paths))
-        then firstOf (faultIn Pairs l list) (upTo 0 (l .pairs)))
-        read)
-
-    pub links-broken : {k j : ℕ} {c : Checked} → c ≡ checkedOf alongLinks → c ≡ Broken k j → Broken k j ≡ checkedOf (listFault m n list)
-    links-broken e q = first-broken alongLinks (alongPaths then alongPairs) e q ∙ sym (ap checkedOf areas)
-
-    module _ {c : Checked} (e : c ≡ checkedOf alongLinks) (q : c ≡ Sound) where
-      behind-links : listFault m n list ≡ (alongPaths then alongPairs)
-      behind-links = areas ∙ first-sound alongLinks (alongPaths then alongPairs) e q
-
-      pub paths-broken : {k j : ℕ} {d : Checked} → d ≡ checkedOf alongPaths → d ≡ Broken k j → Broken k j ≡ checkedOf (listFault m n list)
-      paths-broken g u = first-broken alongPaths alongPairs g u ∙ sym (ap checkedOf behind-links)
-
-      pub pairs-found : {d r : Checked} → d ≡ checkedOf alongPaths → d ≡ Sound → r ≡ checkedOf alongPairs → r ≡ checkedOf (listFault m n list)
-      pairs-found g u v = v ∙ sym (ap checkedOf (behind-links ∙ first-sound alongPaths alongPairs g u))
+  -- What is found in the correspondence is what is found along its areas, with the counts as they were read.
+  pub areas : {limits : Limits} → b ≡ true → limits ≡ limitsOf m n list → listFault m n list ≡ areasFault limits list
+  unfolding listFault limitsOf pairs links paths
+  areas h read =
+      let facts = facts-kept (listRules list) header h in
+      passed wrongList 0 (listRules list) _ header h
+      ∙ sym
+      (λ j. firstOf (λ i. same-link m n list facts i j) (upTo 0 (links list))
+      then firstOf (λ i. same-path m n list facts i j) (upTo 0 (paths list))
+      then firstOf (λ i. same-pair m n list facts i j) (upTo 0 (pairs list)))
+      ∙ sym (ap (λ l. areasFault l list) read)

@@ -107,7 +107,7 @@ module _ (list : List ℕ) (first count : ℕ) where
       set-here : set symbols (link .second) (link .first) ≡ Symbols (map (linkAt list) (upTo (first + (left - 1)) (count - (left - 1))))
       set-here =
           let l = linkAt list (first + (left - 1)) in
-          let e : l ≡ record { first = link .first; second = link .second } = link-decoded list (first + (left - 1)) begins read in
+          let e = link-decoded list (first + (left - 1)) begins read in
           (λ j. set (linking .done j) (sym e j .second) (sym e j .first))
           ∙ symbols-linked l (map (linkAt list) (upTo (first + left) (count - left)))
           ∙ ap Symbols links-more

@@ -44,6 +44,12 @@ pub beq-same : (a : Bool) → Bool·beq a a ≡ true
 beq-same true = refl
 beq-same false = refl
 
+-- Two tests of which each follows from the other are the same.
+pub same-tests : (a b : Bool) → (a ≡ true → b ≡ true) → (b ≡ true → a ≡ true) → a ≡ b
+same-tests true b f g = sym (f refl)
+same-tests false true f g = g refl
+same-tests false false f g = refl
+
 pub each-port : (f : ℕ → Bool) → eachPort f ≡ true → (p : ℕ) → p < 4 → f p ≡ true
 unfolding eachPort
 each-port f e zero h = and-left (f 0) _ e
@@ -167,7 +173,7 @@ fact (lt a b) e = ltb-true a b e
 fact (is a b) e = eqb-true a b e
 fact (so b) e = e
 
-facts : (rs : List Rule) → allKept rs ≡ true → Facts rs
+pub facts : (rs : List Rule) → allKept rs ≡ true → Facts rs
 unfolding allKept
 facts [] e = tt
 facts (r ∷ rs) e = (fact r (and-left (kept r) _ e), facts rs (and-right (kept r) _ e))

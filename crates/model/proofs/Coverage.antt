@@ -15,6 +15,7 @@ use Rattle.model.specs.Run.{tick, isStop, edgeOn}
 use Rattle.model.specs.Path.{allows, walkable, walksOf, walks, begins, beginnings, trueFirst, TrueEarlier, Covered, Rule11}
 use Rattle.model.specs.Path.{isNone, trueSide, behind, allFalse, coversOf, covers, rule11}
 use Rattle.model.proofs.Basics.{clash, and-left, and-right, and-both, beq-same}
+use Rattle.model.proofs.Following.{allows-goes}
 
 -- Paths, or walks, by their choices.
 abbrev Paths : Type 0
@@ -103,13 +104,6 @@ walk-goes (test k l r e f) on h m =
     side : (b : Bool) → cond b (on (e .target)) (on (f .target)) ≡ on (cond b e f .target)
     side true = refl
     side false = refl
-
--- A state that allows a choice is no stop.
-no-stop : (x : State) (b : Bool) → allows x b ≡ true → isStop x ≡ false
-unfolding isStop allows
-no-stop stop b a = clash a refl
-no-stop (step e) b a = refl
-no-stop (test k l r e f) b a = refl
 
 -- From a state there is the walk without a choice, or the state allows false.
 ends-or-goes : (x : State) (on : ℕ → Paths) → List·Memᴰ [] (walksOf x on) ⊎ (allows x false ≡ true)
@@ -423,7 +417,7 @@ covered-covers t (suc n) s ((b ∷ p) ∷ ps) short c =
     let falses = map tail (behind qs) in
     let divided = falses-behind qs (none-empty t (suc n) s b p ps short c) (c .ordered) in
     let whole : joined trues falses ≡ qs = sides-joined qs divided in
-    let moves = no-stop (t s) b (and-left (allows (t s) b) _ (c .walked _ (List·Memᴰ·head refl))) in
+    let moves = allows-goes (t s) b (and-left (allows (t s) b) _ (c .walked _ (List·Memᴰ·head refl))) in
     let shared = covered-shared t n s trues falses moves (rw whole c) in
     let shorter = short-side n trues falses (rw whole short) in
     let passed = shared-map (λ a. covered-covers t n (edgeOn (t s) a .target) _ (shorter a)) shared in

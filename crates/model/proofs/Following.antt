@@ -39,7 +39,7 @@ writes-worth w ρ p (gave q s ∷ l) = by (eqb p q) (writes-worth w ρ p l)
     by true e = ap (λ (r : List ℕ). worth w ρ s ∷ r) e
     by false e = e
 
-map-set : {A B : Type 0} (f : A → B) (l : List A) (i : ℕ) (a : A) → map f (set l i a) ≡ set (map f l) i (f a)
+pub map-set : {A B : Type 0} (f : A → B) (l : List A) (i : ℕ) (a : A) → map f (set l i a) ≡ set (map f l) i (f a)
 map-set f [] i a = refl
 map-set f (x ∷ l) zero a = refl
 map-set {B = B} f (x ∷ l) (suc i) a = ap (λ (r : List B). f x ∷ r) (map-set f l i a)
@@ -68,7 +68,7 @@ Takes w input t [] c = Unit {0}
 Takes w input t (b ∷ bs) c =
     (isStop (t (c .state)) ≡ false) × (sideAt w (c .variables) (t (c .state)) ≡ b) × Takes w input t bs (next w input t c)
 
-room-facts : (p n : ℕ) → roomOn p n ≡ true → (p < 4) × (n < 16)
+pub room-facts : (p n : ℕ) → roomOn p n ≡ true → (p < 4) × (n < 16)
 unfolding roomOn
 room-facts p n e = (ltb-true p 4 (and-left (ltb p 4) _ e), ltb-true n 16 (and-right (ltb p 4) _ e))
 
@@ -84,7 +84,8 @@ pub next-taken : (w : ℕ) (input : Input) (t : Table) (c : Config) (b : Bool) �
 unfolding next
 next-taken w input t c b s e = rw (s, e) refl
 
-allows-goes : (x : State) (b : Bool) → allows x b ≡ true → isStop x ≡ false
+-- A state that allows a choice is no stop.
+pub allows-goes : (x : State) (b : Bool) → allows x b ≡ true → isStop x ≡ false
 unfolding allows isStop
 allows-goes stop b e = clash e refl
 allows-goes (step e′) b e = refl

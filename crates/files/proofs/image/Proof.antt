@@ -1,8 +1,10 @@
 -- `files::image` meets its contract, by what `words` answers. Assumes nothing.
+use mathlib.Core.Path.{ap}
 use native.Mathlib.Omega.{arith}
 use borrow.Author.Needs.{needs}
 use denote.Ref.{now}
-use Rattle.files.proofs.Storing.{lent-whole, lent-ragged, lent-long}
+use Rattle.files.specs.Files.{lentOf}
+use Rattle.files.proofs.Storing.{lent, lent-whole}
 use Rattle.files.proofs.image.Statement.{statement}
 use Rattle.files.proofs.image.Tie as tie
 
@@ -28,13 +30,15 @@ same-length-2 : tie.Need-same-length-2
 same-length-2 c = search needs
 
 returns-2 : tie.Need-returns-2
-returns-2 c = lent-ragged 0 (now (c .before .before .before .before .before .before .before .before .args .bytes)) (now (c .before .before .before .before .before .before .before .before .args .out)) (c .enum-told .given .1) (c .before .before .before .before .words .ensures .0) (c .before .before .before .before .words .ensures .1) (omega arith)
+unfolding lentOf
+returns-2 c = lent 0 (now (c .before .before .before .before .before .before .before .before .args .bytes)) (now (c .before .before .before .before .before .before .before .before .args .out)) (ap (lentOf 0) (c .enum-told .given .1)) (c .before .before .before .before .words .ensures .0) (c .before .before .before .before .words .ensures .1) (omega arith)
 
 same-length-3 : tie.Need-same-length-3
 same-length-3 c = search needs
 
 returns-3 : tie.Need-returns-3
-returns-3 c = lent-long 0 (now (c .before .before .before .before .before .before .before .before .args .bytes)) (now (c .before .before .before .before .before .before .before .before .args .out)) (c .enum-told2 .given .1) (c .before .before .before .before .words .ensures .0) (c .before .before .before .before .words .ensures .1) (omega arith)
+unfolding lentOf
+returns-3 c = lent 0 (now (c .before .before .before .before .before .before .before .before .args .bytes)) (now (c .before .before .before .before .before .before .before .before .args .out)) (ap (lentOf 0) (c .enum-told2 .given .1)) (c .before .before .before .before .words .ensures .0) (c .before .before .before .before .words .ensures .1) (omega arith)
 
 pub image-spec : {M : Type 1} → statement M
 image-spec =

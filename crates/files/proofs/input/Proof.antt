@@ -1,8 +1,10 @@
 -- `files::input` meets its contract, by what `words` answers. Assumes nothing.
+use mathlib.Core.Path.{ap}
 use native.Mathlib.Omega.{arith}
 use borrow.Author.Needs.{needs}
 use denote.Ref.{now}
-use Rattle.files.proofs.Storing.{lent-whole, lent-ragged, lent-long}
+use Rattle.files.specs.Files.{lentOf}
+use Rattle.files.proofs.Storing.{lent, lent-whole}
 use Rattle.files.proofs.input.Statement.{statement}
 use Rattle.files.proofs.input.Tie as tie
 
@@ -22,10 +24,12 @@ returns : tie.Need-returns
 returns c = lent-whole 1 (now (c .before .before .before .before .before .before .args .bytes)) (now (c .before .before .before .before .before .before .args .out)) (c .before .taken .given .1) (c .before .before .before .words .ensures .0) (c .before .before .before .words .ensures .1)
 
 returns-2 : tie.Need-returns-2
-returns-2 c = lent-ragged 1 (now (c .before .before .before .before .before .args .bytes)) (now (c .before .before .before .before .before .args .out)) (c .enum-told .given .1) (c .before .before .words .ensures .0) (c .before .before .words .ensures .1) (omega (arith, c .before .before .before .words-arg .given))
+unfolding lentOf
+returns-2 c = lent 1 (now (c .before .before .before .before .before .args .bytes)) (now (c .before .before .before .before .before .args .out)) (ap (lentOf 1) (c .enum-told .given .1)) (c .before .before .words .ensures .0) (c .before .before .words .ensures .1) (omega (arith, c .before .before .before .words-arg .given))
 
 returns-3 : tie.Need-returns-3
-returns-3 c = lent-long 1 (now (c .before .before .before .before .before .args .bytes)) (now (c .before .before .before .before .before .args .out)) (c .enum-told2 .given .1) (c .before .before .words .ensures .0) (c .before .before .words .ensures .1) (omega (arith, c .before .before .before .words-arg .given))
+unfolding lentOf
+returns-3 c = lent 1 (now (c .before .before .before .before .before .args .bytes)) (now (c .before .before .before .before .before .args .out)) (ap (lentOf 1) (c .enum-told2 .given .1)) (c .before .before .words .ensures .0) (c .before .before .words .ensures .1) (omega (arith, c .before .before .before .words-arg .given))
 
 pub input-spec : {M : Type 1} → statement M
 input-spec =

@@ -1,6 +1,7 @@
 -- `list::check` is the model's finding of a correspondence image. Assumes nothing.
 use borrow.Author.Tests.{not-true, not-false}
-use Rattle.list.proofs.Findings.{header-broken, links-broken, paths-broken, pairs-found}
+use Rattle.fault.proofs.Rules.{first-of-three, second-of-three, third-of-three}
+use Rattle.list.proofs.Findings.{header-broken, areas}
 use borrow.Author.Needs.{needs}
 use Rattle.list.proofs.check.Statement.{statement}
 use Rattle.list.proofs.check.Tie as tie
@@ -36,13 +37,13 @@ check-area-requires-3 : tie.Need-check-area-requires-3
 check-area-requires-3 c κs = search needs
 
 returns-2 : tie.Need-returns-2
-returns-2 c = links-broken _ _ _ (c .before .before .before .before .before .before .header-fits .ensures) (not-false _ (c .before .before .before .before .before .if1 .left)) (c .before .before .before .before .read-limits .ensures) (c .before .before .before .check-area .ensures) (c .before .number .given .1)
+returns-2 c = first-of-three _ _ _ (areas _ _ _ (c .before .before .before .before .before .before .header-fits .ensures) (not-false _ (c .before .before .before .before .before .if1 .left)) (c .before .before .before .before .read-limits .ensures)) (c .before .before .before .check-area .ensures) (c .before .number .given .1)
 
 returns-3 : tie.Need-returns-3
-returns-3 c = paths-broken _ _ _ (c .before .before .before .before .before .before .before .before .before .header-fits .ensures) (not-false _ (c .before .before .before .before .before .before .before .before .if1 .left)) (c .before .before .before .before .before .before .before .read-limits .ensures) (c .before .before .before .before .before .before .check-area .ensures) (c .before .before .before .before .enum-told .given .1) (c .before .before .before .check-area2 .ensures) (c .before .number2 .given .1)
+returns-3 c = second-of-three _ _ _ (areas _ _ _ (c .before .before .before .before .before .before .before .before .before .header-fits .ensures) (not-false _ (c .before .before .before .before .before .before .before .before .if1 .left)) (c .before .before .before .before .before .before .before .read-limits .ensures)) (c .before .before .before .before .before .before .check-area .ensures) (c .before .before .before .before .enum-told .given .1) (c .before .before .before .check-area2 .ensures) (c .before .number2 .given .1)
 
 returns-4 : tie.Need-returns-4
-returns-4 c = pairs-found _ _ _ (c .before .before .before .before .before .before .before .before .before .header-fits .ensures) (not-false _ (c .before .before .before .before .before .before .before .before .if1 .left)) (c .before .before .before .before .before .before .before .read-limits .ensures) (c .before .before .before .before .before .before .check-area .ensures) (c .before .before .before .before .enum-told .given .1) (c .before .before .before .check-area2 .ensures) (c .before .enum-told2 .given .1) (c .check-area3 .ensures)
+returns-4 c = third-of-three _ _ _ (areas _ _ _ (c .before .before .before .before .before .before .before .before .before .header-fits .ensures) (not-false _ (c .before .before .before .before .before .before .before .before .if1 .left)) (c .before .before .before .before .before .before .before .read-limits .ensures)) (c .before .before .before .before .before .before .check-area .ensures) (c .before .before .before .before .enum-told .given .1) (c .before .before .before .check-area2 .ensures) (c .before .enum-told2 .given .1) (c .check-area3 .ensures)
 
 pub check-spec : {M : Type 1} → statement M
 check-spec =
