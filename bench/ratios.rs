@@ -1,6 +1,8 @@
 // The proved library beside the reference, measured in one run. Both are given the same words and a buffer of the same words, already
 // touched; the best of seven counts, the two by turns, each measured over enough repetitions to last.
 // Usage: ratios EXAMPLES, the folder of the pump's tables.
+#[path = "largest.rs"]
+mod largest;
 #[path = "../tests/differential/machine.rs"]
 #[allow(dead_code)]
 mod machine;
@@ -175,11 +177,13 @@ fn main() {
     };
     println!("{:<46} {:>22} {:>13} {:>13} {:>7}", "judge", "size: number", "proved us", "reference us", "ratio");
     judge("the meter with itself", [&METER, &METER, &METER_LIST], "2 paths".to_string());
-    let (drawn, scheduled, list) = (example("drawn"), example("scheduled"), example("list"));
-    judge("the pump", [&drawn, &scheduled, &list], "4 paths".to_string());
-    judge("the pump, its count lost", [&drawn, &example("count_lost"), &list], "4 paths".to_string());
+    let (drawn, scheduled, listed) = (example("drawn"), example("scheduled"), example("list"));
+    judge("the pump", [&drawn, &scheduled, &listed], "4 paths".to_string());
+    judge("the pump, its count lost", [&drawn, &example("count_lost"), &listed], "4 paths".to_string());
     let [table, identity] = wide();
     judge("64 states, 16 actions an edge, with itself", [&table, &table, &identity], "128 paths".to_string());
+    let [first, second, list] = largest::largest();
+    judge("the largest: paths of 32 edges, 16 terms", [&first, &second, &list], "512 paths".to_string());
     for pairs in [1, 2, 4, 8, 15] {
         let ([table, list], paths) = comb(pairs);
         judge("32 tests, 16 assigns an edge, with itself", [&table, &table, &list], format!("{paths} paths"));
