@@ -10,7 +10,7 @@ use mathlib.Core.List.Memᴰ
 use mathlib.Core.List.{Memᴰ}
 use native.Mathlib.Omega.{arith}
 use lib.ListN.{length}
-use Rattle.model.specs.Table.{State, stop, step, test, Table}
+use Rattle.model.specs.Table.{Edge, State, stop, step, test, Table}
 use Rattle.model.specs.Run.{tick, is_stop, edge_on}
 use Rattle.model.specs.Path.{allows, walkable, walks_of, walks, begins, beginnings, true_first, TrueEarlier, Covered, Rule11}
 use Rattle.model.specs.Path.{is_none, true_side, behind, all_false, covers_of, covers, rule11}
@@ -246,6 +246,35 @@ falses_behind ((false ∷ p) ∷ ps) none o = later ps (λ m. none (Memᴰ.tail 
 abbrev Divided : State → (ℕ → Paths → Bool) → Paths → Type 0
 Divided x on ps = (all_false (behind ps) ≡ true) × Shared x (λ s qs. on s qs ≡ true) (true_side ps) (map tail (behind ps))
 
+-- After a step that has no true paths, all paths are on its false side.
+step_allowed : (e : Edge) (on : ℕ → Paths → Bool) (ps : Paths)
+    → on e.target (map tail ps) ≡ true
+    → (b : Bool)
+    → allows (step e) b ≡ true
+    → on (edge_on (step e) b).target (cond b (true_side ps) (map tail ps)) ≡ true
+unfolding is_stop edge_on allows
+step_allowed e on ps h true a = clash a refl
+step_allowed e on ps h false a = h
+
+-- A step has no true paths where it has no true side.
+step_barred : (e : Edge) (ps : Paths)
+    → true_side ps ≡ []
+    → (b : Bool)
+    → allows (step e) b ≡ false
+    → cond b (true_side ps) (map tail ps) ≡ []
+unfolding is_stop edge_on allows
+step_barred e ps none true a = none
+step_barred e ps none false a = clash refl a
+
+-- What holds on both sides of a test holds on each.
+test_allowed : (e f : Edge) (on : ℕ → Paths → Bool) (trues falses : Paths)
+    → on e.target trues ≡ true
+    → on f.target falses ≡ true
+    → (b : Bool)
+    → on (cond b e f).target (cond b trues falses) ≡ true
+test_allowed e f on trues falses first second true = first
+test_allowed e f on trues falses first second false = second
+
 -- Paths that pass the test at a state are divided so.
 covers_of_divides : (x : State) (on : ℕ → Paths → Bool) (ps : Paths) → covers_of x on ps ≡ true → Divided x on ps
 unfolding is_stop edge_on allows covers_of
@@ -257,8 +286,8 @@ covers_of_divides (step e) on ps h =
       falses,
       record {
         moves = refl;
-        allowed = λ b. elim b [ true ↦ λ a. clash a refl | false ↦ λ a. and_right (all_false ps) _ h ];
-        barred = λ b. elim b [ true ↦ λ a. none | false ↦ λ a. clash refl a ];
+        allowed = step_allowed e on ps (and_right (all_false ps) _ h);
+        barred = step_barred e ps none;
       },
     )
 covers_of_divides (test k l r e f) on ps h =
@@ -267,7 +296,8 @@ covers_of_divides (test k l r e f) on ps h =
       and_left (all_false (behind ps)) _ later,
       record {
         moves = refl;
-        allowed = λ b. elim b [ true ↦ λ a. first | false ↦ λ a. and_right (all_false (behind ps)) _ later ];
+        allowed = λ b a.
+            test_allowed e f on (true_side ps) (map tail (behind ps)) first (and_right (all_false (behind ps)) _ later) b;
         barred = λ b a. clash refl a;
       },
     )
