@@ -1,5 +1,7 @@
 // Word arithmetic of the chip at 32 bits: sums, differences, products and negations that wrap, the signed number of a word, and the
 // three tests. Each contract is the definition of `model` at width 32. Assumes nothing.
+#![tactic(auto)]
+
 ghost use Rattle.std.specs.Prelude.{◌≡◌};
 ghost use Rattle.model.specs.Word.{base, plus as plus_of, minus as minus_of, times as times_of, negated as negated_of, signed as signed_of, holds as holds_of};
 ghost use Rattle.model.specs.Table.{kind_of as kind_numbered};

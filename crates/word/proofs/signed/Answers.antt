@@ -2,8 +2,7 @@
 use Rattle.std.proofs.Common.{◌≡◌, ℕ, suc, ◌-◌, ◌^◌, ◌<◌, pos, negsuc, ◌-ℤ◌, refl, ◌∙◌, arith, to_z-of_z, w64, SFits, to_z, rules, le-ltb, lt-ltb}
 use mir.Facts.{to_z_pos}
 use Rattle.model.specs.Word.{signed}
-use Rattle.word.proofs.signed.Statement.{statement}
-use Rattle.word.proofs.signed.Tie as tie
+use Rattle.word.proofs.signed.Goals as goal
 
 -- A word, as a number of 64 bits with a sign, and less 2^32.
 
@@ -16,26 +15,14 @@ less x h = rw (whole x h, lt-ltb x 4294967296 h) refl
 less_fits : (x : ℕ) → x < 2 ^ 32 → SFits w64 (to_z w64 x -ℤ pos 4294967296)
 less_fits x h = rw (less x h) (record { sfits = omega arith })
 
-cast-result : tie.Need-overflow-cast-result
-cast-result c = search rules
-
-cast-result-2 : tie.Need-overflow-cast-result-2
-cast-result-2 c = search rules
-
-sub-result : tie.Need-overflow-sub-result
-sub-result c = less_fits c.before.args.x (omega arith)
-
-returns : tie.Need-returns
+pub returns-then-x-lt2147483648 : goal.returns-then-x-lt2147483648
 unfolding signed
-returns c =
-    let x = c.before.args.x in
+returns-then-x-lt2147483648 c =
+    let x = c.args.x in
     rw (lt-ltb x 2147483648 (omega arith)) (whole x (omega arith))
 
-returns-2 : tie.Need-returns-2
+pub returns-else-x-lt2147483648 : goal.returns-else-x-lt2147483648
 unfolding signed
-returns-2 c =
-    let x = c.before.args.x in
+returns-else-x-lt2147483648 c =
+    let x = c.args.x in
     rw (le-ltb x 2147483648 (omega arith)) (to_z-of_z (less_fits x (omega arith)) ∙ less x (omega arith))
-
-pub signed-spec : {M : Type 1} → statement M
-signed-spec = tie.close (tie.spec cast-result cast-result-2 sub-result returns returns-2)
