@@ -4,15 +4,13 @@ use mathlib.Core.Path.{◌≡◌, refl, sym, ◌∙◌, ap}
 use mathlib.Core.List.{List}
 use lib.Dec.{eqb}
 use native.Mathlib.Omega.{arith}
-use borrow.Author.Rules.{rules}
 use borrow.Author.Tests.{ne_eqb}
 use Rattle.model.specs.Table.{state_of, table_of}
 use Rattle.model.specs.Run.{is_stop}
 use Rattle.table.specs.Checks.{state_record}
 use Rattle.table.specs.declared.StateRecord.{StateRecord}
 use Rattle.table.proofs.Decoding.{state_decoded}
-use Rattle.judge.proofs.stops.Statement.{statement}
-use Rattle.judge.proofs.stops.Tie as tie
+use Rattle.judge.proofs.stops.Goals as goal
 
 by_kind : (image : List ℕ) (k l r t f : ℕ) → eqb k 0 ≡ is_stop (state_of image k l r t f)
 unfolding is_stop state_of
@@ -23,15 +21,5 @@ by_kind image (suc (suc k)) l r t f = ne_eqb (suc (suc k)) 0 (λ z. omega arith)
 is_stop_lem : (image : List ℕ) (s : ℕ) {r : StateRecord} → r ≡ state_record image s → eqb r.kind 0 ≡ is_stop (table_of image s)
 is_stop_lem image s {r} e = by_kind image r.kind _ _ _ _ ∙ ap is_stop (sym (state_decoded image s e))
 
-state-requires : tie.Need-state-requires
-state-requires c κs = search rules
-
-returns : tie.Need-returns
-returns c = is_stop_lem _ _ c.before.state.ensures
-
-pub stops-spec : {M : Type 1} → statement M
-stops-spec =
-    tie.close
-    (tie.spec
-    state-requires
-    returns)
+pub returns : goal.returns
+returns c = is_stop_lem _ _ c.state-record.ensures
