@@ -58,7 +58,10 @@ fn judge_files(rt: &HostRuntime, i: usize) -> bool
 fn main(rt: HostRuntime) {
     let count = shell::argument_count(&rt);
     if count < 4 {
-        shell::say(&rt, b"too few arguments: check_tables FIRST SECOND LIST [FIRST SECOND LIST ..]\n");
+        shell::say(
+            &rt,
+            b"too few arguments: check_tables FIRST SECOND LIST [FIRST SECOND LIST ..]\n",
+        );
         return;
     }
     if count % 3 != 1 {

@@ -12,4 +12,6 @@ pub slice_bounds-append-end : goal.slice_bounds-append-end
 slice_bounds-append-end c = (formed_within (couple_line c.args.port c.args.x) (replicate 37 0) (c.form_couple-n.ensures.value, c.form_couple-n.ensures.out_after) (omega (arith, length_couple c.args.port c.args.x (omega arith) (omega arith)))).1
 
 pub returns : goal.returns
-returns c = let h = formed_appended c.args.at (couple_line c.args.port c.args.x) (replicate 37 0) c.args.text.now (c.form_couple-n.ensures.value, c.form_couple-n.ensures.out_after) (c.append.ensures.value, c.append.ensures.out_after) (omega (arith, length_couple c.args.port c.args.x (omega arith) (omega arith))) in record { value = h.0; text_after = h.1 }
+returns c =
+    let h = formed_appended c.args.at (couple_line c.args.port c.args.x) (replicate 37 0) c.args.text.now (c.form_couple-n.ensures.value, c.form_couple-n.ensures.out_after) (c.append.ensures.value, c.append.ensures.out_after) (omega (arith, length_couple c.args.port c.args.x (omega arith) (omega arith))) in
+    record { value = h.0; text_after = h.1 }

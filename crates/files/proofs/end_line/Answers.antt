@@ -12,4 +12,6 @@ pub slice_bounds-append-end : goal.slice_bounds-append-end
 slice_bounds-append-end c = (formed_within (end_line c.args.number c.args.state c.args.edges) (replicate 37 0) (c.form_end-n.ensures.value, c.form_end-n.ensures.out_after) (omega (arith, length_end c.args.number c.args.state c.args.edges (omega arith) (omega arith) (omega arith)))).1
 
 pub returns : goal.returns
-returns c = let h = formed_appended c.args.at (end_line c.args.number c.args.state c.args.edges) (replicate 37 0) c.args.text.now (c.form_end-n.ensures.value, c.form_end-n.ensures.out_after) (c.append.ensures.value, c.append.ensures.out_after) (omega (arith, length_end c.args.number c.args.state c.args.edges (omega arith) (omega arith) (omega arith))) in record { value = h.0; text_after = h.1 }
+returns c =
+    let h = formed_appended c.args.at (end_line c.args.number c.args.state c.args.edges) (replicate 37 0) c.args.text.now (c.form_end-n.ensures.value, c.form_end-n.ensures.out_after) (c.append.ensures.value, c.append.ensures.out_after) (omega (arith, length_end c.args.number c.args.state c.args.edges (omega arith) (omega arith) (omega arith))) in
+    record { value = h.0; text_after = h.1 }

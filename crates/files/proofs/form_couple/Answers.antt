@@ -22,4 +22,6 @@ pub overflow_add-result : goal.overflow_add-result
 overflow_add-result c = omega (arith, length_word c.args.port (omega arith), printed_length c.args.x (omega arith))
 
 pub returns : goal.returns
-returns c = let h = couple_put c.args.port c.args.x c.args.out.now (c.put-first.ensures.value, c.put-first.ensures.out_after) (c.put_signed-second.ensures.value, c.put_signed-second.ensures.out_after) in record { value = h.0; out_after = h.1 }
+returns c =
+    let h = couple_put c.args.port c.args.x c.args.out.now (c.put-first.ensures.value, c.put-first.ensures.out_after) (c.put_signed-second.ensures.value, c.put_signed-second.ensures.out_after) in
+    record { value = h.0; out_after = h.1 }

@@ -31,4 +31,6 @@ pub overflow_add-result : goal.overflow_add-result
 overflow_add-result c = omega (arith, length_word c.args.a (omega arith), length_word c.args.b (omega arith), length_word c.args.c (omega arith))
 
 pub returns : goal.returns
-returns c = let h = three_put c.args.a c.args.b c.args.c c.args.at c.args.out.now (c.put-first.ensures.value, c.put-first.ensures.out_after) (c.put-second.ensures.value, c.put-second.ensures.out_after) (c.put-third.ensures.value, c.put-third.ensures.out_after) in record { value = h.0; out_after = h.1 }
+returns c =
+    let h = three_put c.args.a c.args.b c.args.c c.args.at c.args.out.now (c.put-first.ensures.value, c.put-first.ensures.out_after) (c.put-second.ensures.value, c.put-second.ensures.out_after) (c.put-third.ensures.value, c.put-third.ensures.out_after) in
+    record { value = h.0; out_after = h.1 }
