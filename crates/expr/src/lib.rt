@@ -1,6 +1,8 @@
 // Expressions in prefix code words: how far one extends, its value, and its normal sum in an environment of sums. 0 then a constant;
 // 1 then a variable; 2 sum, 3 difference, 4 product, each followed by two expressions; 5 negation, followed by one; at most 64
 // words. Each contract is the reading of `model`, malformed words included. Assumes nothing.
+#![tactic(auto)]
+
 ghost use Rattle.std.specs.Prelude.{◌≡◌, true, ◌+◌, ◌≤◌, ◌<◌, get_or};
 ghost use Rattle.model.specs.Word.{base};
 ghost use Rattle.model.specs.Expr.{read_at, is_parsed, tree_of, value as value_of};

@@ -1,6 +1,8 @@
 // The check of a correspondence image: the first fault, 6 to 9, in the order header, links, paths, pairs, for words of any number and
 // content; the fields of its records; and the symbols of the variables at the start of a pair's paths. Each contract is the model's
 // definition of the same thing. Assumes nothing.
+#![tactic(auto)]
+
 ghost use Rattle.std.specs.Prelude.{◌≡◌, map, ◌+◌, ◌≤◌, ◌<◌, ◌^◌, leb};
 ghost use Rattle.model.specs.Answer.{first_of, up_to, all_kept};
 ghost use Rattle.model.specs.Table.{member, distinct};

@@ -11,7 +11,7 @@ use borrow.Author.Tests.{le-leb, lt-leb}
 use Rattle.model.specs.Answer.{Reason, end_stop, end_limit, end_input, end_room, number_of, sound, up_to, word}
 use Rattle.model.specs.Word.{base, holds}
 use Rattle.model.specs.Expr.{value, read_at, is_parsed, tree_of}
-use Rattle.model.specs.Table.{Action, assign, read, write, states, edges, actions, code_area, action_at, edge_at, kind_of, state_of, table_of, table_fault}
+use Rattle.model.specs.Table.{Action, assign, read, write, states, edges, code_area, action_at, edge_at, kind_of, state_of, table_of, table_fault}
 use Rattle.model.specs.Run.{is_stop, side_at, edge_on, at, reads, couple_words, start, zeros, End, end_of, trial_of, buffer_of}
 use Rattle.model.proofs.Basics.{length_up_to}
 use Rattle.model.proofs.CheckedTable.{checked_reset}

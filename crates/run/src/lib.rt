@@ -1,5 +1,7 @@
 // The trial run of a table on given words: the image and the input are checked, then edges are done one after the other until the run
 // stops, its limit is reached, or input or room is lacking. The answer and the whole final buffer are the model's. Assumes nothing.
+#![tactic(auto)]
+
 ghost use Rattle.std.specs.Prelude.{◌≡◌, true, map, ◌+◌, ◌*◌, ◌≤◌, ◌<◌, length, get_or, drop};
 ghost use Rattle.model.specs.Answer.{sound, up_to, all_kept, word};
 ghost use Rattle.model.specs.Word.{base};

@@ -16,7 +16,6 @@ use Rattle.sum.specs.Packed.{terms_of, added_of}
 use Rattle.sum.proofs.Held.{terms_as}
 use Rattle.env.specs.Env.{sums_of, stored_in}
 use Rattle.env.proofs.Stored.{sums_few}
-use Rattle.expr.specs.declared.answers.Form.TheVariants.{TooLarge, Fits}
 use Rattle.expr.proofs.Normals.{Few, sum_few}
 use Rattle.table.specs.declared.EdgeRecord.{EdgeRecord}
 use Rattle.table.specs.Checks.{edge_record}

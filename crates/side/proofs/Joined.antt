@@ -122,7 +122,9 @@ symbols_packed (x ∷ list) h = λ i. (symbol_packs x h.0).same i ∷ symbols_pa
 symbols_length : (list words : List ℕ) (v n : ℕ) → length words ≡ 528 → length (symbols_from list words v n) ≡ 528
 unfolding symbols_from
 symbols_length list words v zero h = h
-symbols_length list words v (suc n) h = symbols_length list _ (suc v) n (length_with words v _ h (one_symbol _))
+symbols_length list words v (suc n) h =
+    let next = with_variable words v (symbol_k (symbol_of (get_or list v 0))) in
+    symbols_length list next (suc v) n (length_with words v _ h (one_symbol _))
 
 -- The variables below v are their symbols; so are all once the others are stored.
 symbols_stored : (list words : List ℕ) (v n : ℕ) → length list ≡ 16 → length words ≡ 528 → v + n ≡ 16

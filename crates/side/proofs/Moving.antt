@@ -2,12 +2,12 @@
 -- Assumes nothing.
 use Prim.Native.Nat.{ℕ, zero, suc, ◌+◌, ◌-◌, ◌≤◌, ◌<◌}
 use mathlib.Core.Path.{◌≡◌, refl, sym, ◌∙◌, ap}
-use mathlib.Core.Bool.{Bool, true, false, not}
+use mathlib.Core.Bool.{Bool, true, false}
 use mathlib.Core.List.{List, map}
 use native.Mathlib.Omega.{arith}
 use lib.Dec.{ltb}
 use lib.ListN.{length, set}
-use borrow.Author.Tests.{lt-ltb, le-ltb, not-true, not-false}
+use borrow.Author.Tests.{lt-ltb, le-ltb}
 use Rattle.model.specs.Expr.{read_at, is_parsed, tree_of}
 use Rattle.model.specs.Table.{assign, read, write, action_of}
 use Rattle.model.specs.Sum.{too_large}
@@ -35,9 +35,9 @@ pub room_some : (p n : ℕ) → p < 4 → ltb n 16 ≡ room_on p n
 unfolding room_on
 room_some p n h = rw (lt-ltb p 4 h)
 
-pub room_both : {p n m : ℕ} {b : Bool} → b ≡ room_on p n → n ≡ m → not b ≡ false → (p < 4) × (m < 16)
+pub room_both : {p n m : ℕ} {b : Bool} → b ≡ room_on p n → n ≡ m → b ≡ true → (p < 4) × (m < 16)
 room_both {p} {n} {m} {b} asked counted h =
-    let (port, few) = room_facts p n (sym asked ∙ not-false b h) in
+    let (port, few) = room_facts p n (sym asked ∙ h) in
     (port, omega arith)
 
 -- The actions from i on, `left` of them, are still to be done.
@@ -114,17 +114,17 @@ module _ (before code : List ℕ) (r : ActionRecord) (env reads counts written :
   -- A read.
 
   module _ (is : r.kind ≡ 1) {n : ℕ} {b : Bool} (counted : n ≡ count_on reads r.a) (asked : b ≡ room_on r.a n) where
-    pub read_full : not b ≡ true → action_k before (action_in code r) (held_as env reads counts written) ≡ stuck (held_as env reads counts written)
+    pub read_full : b ≡ false → action_k before (action_in code r) (held_as env reads counts written) ≡ stuck (held_as env reads counts written)
     unfolding action_k held_as
     read_full h =
-        let e : room_on r.a (count_on reads r.a) ≡ false = ap (room_on r.a) (sym counted) ∙ sym asked ∙ not-true b h in
+        let e : room_on r.a (count_on reads r.a) ≡ false = ap (room_on r.a) (sym counted) ∙ sym asked ∙ h in
         rw (is_read is, e) refl
 
-    pub read_done : {m : ℕ} {env' : List ℕ} → not b ≡ false → m ≡ symbol_of (read_symbol r.a n) → env' ≡ with_variable env r.b (symbol_k m)
+    pub read_done : {m : ℕ} {env' : List ℕ} → b ≡ true → m ≡ symbol_of (read_symbol r.a n) → env' ≡ with_variable env r.b (symbol_k m)
         → action_k before (action_in code r) (held_as env reads counts written) ≡ whole (held_as env' (set reads r.a (n + 1)) counts written)
     unfolding action_k held_as with_read one_more
     read_done {m} h es ee =
-        let e : room_on r.a (count_on reads r.a) ≡ true = ap (room_on r.a) (sym counted) ∙ sym asked ∙ not-false b h in
+        let e : room_on r.a (count_on reads r.a) ≡ true = ap (room_on r.a) (sym counted) ∙ sym asked ∙ h in
         let x : symbol_k (symbol_of (read_symbol r.a (count_on reads r.a))) ≡ symbol_k m =
         ap (λ k. symbol_k (symbol_of (read_symbol r.a k))) (sym counted) ∙ sym (ap symbol_k es) in
         let w = ap (with_variable env r.b) x ∙ sym ee in
@@ -152,16 +152,16 @@ module _ (before code : List ℕ) (r : ActionRecord) (env reads counts written :
 
     -- A write.
     module _ {n : ℕ} {b : Bool} (fine : f.size ≡ Fits) (not-assign : r.kind ≡ 0 → ⊥) (counted : n ≡ count_on counts r.a) (asked : b ≡ room_on r.a n) where
-      pub write_full : not b ≡ true → action_k before (action_in code r) (held_as env reads counts written) ≡ stuck (held_as env reads counts written)
+      pub write_full : b ≡ false → action_k before (action_in code r) (held_as env reads counts written) ≡ stuck (held_as env reads counts written)
       unfolding action_k held_as writes_as after_sum
       write_full h =
-          let e : room_on r.a (count_on counts r.a) ≡ false = ap (room_on r.a) (sym counted) ∙ sym asked ∙ not-true b h in
+          let e : room_on r.a (count_on counts r.a) ≡ false = ap (room_on r.a) (sym counted) ∙ sym asked ∙ h in
           rw (is_write other not-assign, added_fits _ (formed_few before _) formed fine, e) refl
 
-      pub write_done : (counts' written' : List ℕ) → not b ≡ false → writes_as counts' written' ≡ with_write (writes_as counts written) r.a (terms_of f.sum)
+      pub write_done : (counts' written' : List ℕ) → b ≡ true → writes_as counts' written' ≡ with_write (writes_as counts written) r.a (terms_of f.sum)
           → action_k before (action_in code r) (held_as env reads counts written) ≡ whole (held_as env reads counts' written')
       unfolding action_k held_as with_given after_sum writes_as
       write_done counts' written' h d =
-          let e : room_on r.a (count_on counts r.a) ≡ true = ap (room_on r.a) (sym counted) ∙ sym asked ∙ not-false b h in
+          let e : room_on r.a (count_on counts r.a) ≡ true = ap (room_on r.a) (sym counted) ∙ sym asked ∙ h in
           rw (is_write other not-assign, added_fits _ (formed_few before _) formed fine, e)
           (λ i. whole (record { env = env; reads = reads; writes = sym d i }))

@@ -296,8 +296,8 @@ module _ (cs : List Model.Condition) (h : Held) (m : Model.Side) (k : Moved cs h
       record {
         held = record {
           variables = env_set h.env m.environment x l s k.held.variables p;
-          four_reads = k.held.four-reads;
-          four_writes = k.held.four-writes;
+          four_reads = k.held.four_reads;
+          four_writes = k.held.four_writes;
           full = k.held.full;
           counts = k.held.counts;
           ports = k.held.ports;
@@ -313,10 +313,10 @@ module _ (cs : List Model.Condition) (h : Held) (m : Model.Side) (k : Moved cs h
       record {
         held = record {
           variables = rw (← c) (env_set h.env m.environment x _ _ k.held.variables (read_packs p (count_on h.reads p) i j));
-          four_reads = more_four h.reads p k.held.four-reads;
-          four_writes = k.held.four-writes;
+          four_reads = more_four h.reads p k.held.four_reads;
+          four_writes = k.held.four_writes;
           full = k.held.full;
-          counts = λ q n. counts_took h.reads m.events p q k.held.four-reads i n c (k.held.counts q n);
+          counts = λ q n. counts_took h.reads m.events p q k.held.four_reads i n c (k.held.counts q n);
           ports = λ q n. rw (writes_took q p m.events) (k.held.ports q n);
         };
         conditions = k.conditions;
@@ -329,11 +329,11 @@ module _ (cs : List Model.Condition) (h : Held) (m : Model.Side) (k : Moved cs h
       record {
         held = record {
           variables = k.held.variables;
-          four_reads = k.held.four-reads;
-          four_writes = written_four h.writes p l s k.held.four-writes k.held.full i j w;
-          full = written_full h.writes p l s k.held.four-writes k.held.full i j w;
+          four_reads = k.held.four_reads;
+          four_writes = written_four h.writes p l s k.held.four_writes k.held.full i j w;
+          full = written_full h.writes p l s k.held.four_writes k.held.full i j w;
           counts = λ q n. k.held.counts q n ∙ sym (reads_gave q p s m.events);
-          ports = λ q n. ports_gave h.writes p l s k.held.four-writes k.held.full i j w m.events q n (k.held.ports p i) (k.held.ports q n);
+          ports = λ q n. ports_gave h.writes p l s k.held.four_writes k.held.full i j w m.events q n (k.held.ports p i) (k.held.ports q n);
         };
         conditions = k.conditions;
       }
@@ -394,11 +394,11 @@ module _ (cs : Conditions) (before : List Model.Condition) (c : Model.Condition)
   two = stored_in one (2 * cs.n + 1) y
 
   in_one : 33 * (2 * cs.n) + 33 ≤ length cs.sums
-  in_one = omega (arith, h.full-sums)
+  in_one = omega (arith, h.full_sums)
 
   one_full : length one ≡ 2112
   unfolding one
-  one_full = length_stored cs.sums (2 * cs.n) x in_one p.few ∙ h.full-sums
+  one_full = length_stored cs.sums (2 * cs.n) x in_one p.few ∙ h.full_sums
 
   in_two : 33 * (2 * cs.n + 1) + 33 ≤ length one
   in_two = omega (arith, one_full)
@@ -429,10 +429,10 @@ module _ (cs : Conditions) (before : List Model.Condition) (c : Model.Condition)
   latest =
       let k : ℕ = kind_number c.kind in
       let b : ℕ = bit_of c.taken in
-      let l : length (set cs.marks (2 * cs.n) k) ≡ 64 = length-set cs.marks (2 * cs.n) k ∙ h.full-marks in
+      let l : length (set cs.marks (2 * cs.n) k) ≡ 64 = length-set cs.marks (2 * cs.n) k ∙ h.full_marks in
       let kind : get_or (set (set cs.marks (2 * cs.n) k) (2 * cs.n + 1) b) (2 * cs.n) 0 ≡ k =
       get_or-set_other (set cs.marks (2 * cs.n) k) (2 * cs.n + 1) (2 * cs.n) b 0 (λ e. absurd (omega arith))
-      ∙ get_or-set_same cs.marks (2 * cs.n) k 0 (omega (arith, h.full-marks)) in
+      ∙ get_or-set_same cs.marks (2 * cs.n) k 0 (omega (arith, h.full_marks)) in
       let side : get_or (set (set cs.marks (2 * cs.n) k) (2 * cs.n + 1) b) (2 * cs.n + 1) 0 ≡ b =
       get_or-set_same (set cs.marks (2 * cs.n) k) (2 * cs.n + 1) b 0 (omega arith) in
       let left =
@@ -450,7 +450,7 @@ module _ (cs : Conditions) (before : List Model.Condition) (c : Model.Condition)
         stands = record {
           count = omega (arith, e, h.count);
           few = omega arith;
-          full_marks = length-set (set cs.marks (2 * cs.n) (kind_number c.kind)) (2 * cs.n + 1) _ ∙ length-set cs.marks (2 * cs.n) _ ∙ h.full-marks;
+          full_marks = length-set (set cs.marks (2 * cs.n) (kind_number c.kind)) (2 * cs.n + 1) _ ∙ length-set cs.marks (2 * cs.n) _ ∙ h.full_marks;
           full_sums = length_stored one (2 * cs.n + 1) y in_two q.few ∙ one_full;
           same = rw (map-append condition_of before (c ∷ []))
               (read_more (condition_at cs.marks cs.sums) (condition_at marks two) cs.n (map condition_of before) (condition_of c) h.same earlier latest);

@@ -1,6 +1,8 @@
 // One side of a path: choices followed through a table with symbols, whole, to the sums of the variables, the conditions, and the
 // reads and writes of each port, or stuck where something is too large. Sums are kept in lent arrays. Each contract is an equation with the
 // definitions of specs/Parts and specs/Following. Assumes nothing.
+#![tactic(auto)]
+
 ghost use Rattle.std.specs.Prelude.{◌≡◌, ◌+◌, ◌-◌, ◌≤◌, ◌<◌, ◌^◌, length, true};
 ghost use Rattle.model.specs.Expr.{read_at, is_parsed};
 ghost use Rattle.model.specs.Answer.{sound};

@@ -1,5 +1,7 @@
 // The check of a table image: the first fault, 1 to 5, in the order header, states, actions, edges, for words of any number and
 // content; and the fields of its records. Each contract is the model's definition of the same thing. Assumes nothing.
+#![tactic(auto)]
+
 ghost use Rattle.std.specs.Prelude.{◌≡◌, map, ◌+◌, ◌<◌, ◌^◌};
 ghost use Rattle.model.specs.Answer.{first_of, up_to, all_kept, word};
 ghost use Rattle.model.specs.Expr.{read_at, is_parsed};

@@ -1,0 +1,9 @@
+-- `list::partners` is the second table's symbols at the start of a pair's paths: those by the links behind, link by link. Assumes nothing.
+use Rattle.list.proofs.Linking.{Linking}
+use Rattle.list.proofs.partners.Given as goal
+
+abbrev pub invariant-loop-left : goal.invariant-loop-left
+invariant-loop-left l = Linking l.list l.first l.count l.symbols l.left
+
+abbrev pub decreases-loop-left : goal.decreases-loop-left
+decreases-loop-left l = l.left

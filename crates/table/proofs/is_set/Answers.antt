@@ -1,0 +1,11 @@
+-- `table::is_set` is whether the model's action sets the variable. Assumes nothing.
+use Rattle.model.specs.Table.{action_at}
+use Rattle.fault.proofs.Search.{member_none, member_one}
+use Rattle.table.proofs.Areas.{one_nothing, one_variable}
+use Rattle.table.proofs.is_set.Goals as goal
+
+pub returns-in-Nothing : goal.returns-in-Nothing
+returns-in-Nothing c = member_none _ (one_nothing (action_at c.args.image.now) _ c.set_by.ensures c.in-Nothing.is)
+
+pub returns-in-Variable : goal.returns-in-Variable
+returns-in-Variable c = member_one _ _ (one_variable (action_at c.args.image.now) _ c.set_by.ensures c.in-Variable.is)
