@@ -1,7 +1,10 @@
 // Works the sums and expressions that bench/arith measures, and prints a check number that plain Rust must print too.
 // `arith WHICH ROUNDS`: 0 a 16-term sum plus a 16-term sum, 1 an 8 by 8 product, 2 the normal sum and 3 the value of a 63-word
 // expression. With no arguments each is worked 10 times.
-use libc::STDOUT_FILENO;
+#![tactic(auto)]
+
+use std::io::Print;
+use std::rt::Env;
 use sum::{Size, Sum, Term};
 
 // Ten products of two and a negation under sums and differences, over all sixteen variables: 63 words, 11 terms.
@@ -29,11 +32,13 @@ fn number(text: &[u8]) -> u32 {
     n
 }
 
-// The number that an argument writes; 0 where it is missing.
-fn argument(i: usize) -> u32 {
+// The number that an argument writes; 0 where it is missing or longer than 16 bytes.
+fn argument(rt: &impl Env, i: usize) -> u32 {
     let mut text = [0u8; 16];
-    let n = os::arg(i, &mut text);
-    number(&text[..n])
+    match rt.arg(i, &mut text) {
+        Ok(n) => number(&text[..n]),
+        Err(_) => 0,
+    }
 }
 
 // A number that depends on each term of a sum.
@@ -158,27 +163,26 @@ fn valued(rounds: u32) -> u32 {
     total
 }
 
-fn show(n: u32) {
-    io::print_decimal(STDOUT_FILENO, n as u64);
-    io::write_all(STDOUT_FILENO, b"\n");
+fn show(rt: &impl Print, n: u32) {
+    let _ = rt.println(n);
 }
 
-fn work(which: u32, rounds: u32) {
+fn work(rt: &impl Print, which: u32, rounds: u32) {
     match which {
-        0 => show(added(rounds)),
-        1 => show(multiplied(rounds)),
-        2 => show(formed(rounds)),
-        _ => show(valued(rounds)),
+        0 => show(rt, added(rounds)),
+        1 => show(rt, multiplied(rounds)),
+        2 => show(rt, formed(rounds)),
+        _ => show(rt, valued(rounds)),
     }
 }
 
-fn main() {
-    if os::arg_count() < 3 {
-        work(0, 10);
-        work(1, 10);
-        work(2, 10);
-        work(3, 10);
+fn main(rt: HostRuntime) {
+    if shell::argument_count(&rt) < 3 {
+        work(&rt, 0, 10);
+        work(&rt, 1, 10);
+        work(&rt, 2, 10);
+        work(&rt, 3, 10);
         return;
     }
-    work(argument(1), argument(2));
+    work(&rt, argument(&rt, 1), argument(&rt, 2));
 }

@@ -1,7 +1,9 @@
 // `check_tables FIRST SECOND LIST` judges whether the second table does what the first does, by a correspondence, and prints the verdict in
 // a line `number image record`. More such triples may follow, and each gives its line in turn. What it was called with wrongly, or cannot
 // read or write, it says in one line on standard error; nothing is printed for that triple, nor for those behind it. What a line holds is
-// proved; that it is printed rests on the C library's contracts.
+// proved; that it is printed rests on std.
+#![tactic(auto)]
+
 ghost use Rattle.std.specs.Prelude.{◌≡◌, ◌+◌, ◌<◌, ◌≤◌, ◌^◌, length};
 ghost use Rattle.files.specs.Files.{placed};
 ghost use Rattle.files.specs.Lines.{Front};
@@ -21,53 +23,57 @@ fn verdict_text(first: &[u32], second: &[u32], list: &[u32], text: &mut [u8]) ->
 }
 
 // Judges three images and prints the verdict: whether it could be written.
-fn judge_words(first: &[u32], second: &[u32], list: &[u32]) -> bool {
-    let mut text = io::buffer();
+fn judge_words(rt: &HostRuntime, first: &[u32], second: &[u32], list: &[u32]) -> bool {
+    let mut text = shell::buffer();
     let n = verdict_text(first, second, list, &mut text);
-    shell::print(&text[..n])
+    shell::print(rt, &text[..n])
 }
 
 // Reads the three files that stand from an argument on, judges them and prints the verdict: whether all that could be done.
-fn judge_files(i: usize) -> bool
+fn judge_files(rt: &HostRuntime, i: usize) -> bool
     requires { i + 2 < 2 ^ 64 }
 {
-    let mut bytes = io::large_buffer();
+    let mut bytes = shell::large_buffer();
     let mut first = [0u32; 4298];
     let mut second = [0u32; 4298];
     let mut list = [0u32; 5512];
-    let one = shell::read_argument(i, &mut bytes);
+    let one = shell::read_argument(rt, i, &mut bytes);
     let File::Bytes(n) = one else {
         return false;
     };
     let a = files::image(&bytes[..n], &mut first);
-    let other = shell::read_argument(i + 1, &mut bytes);
+    let other = shell::read_argument(rt, i + 1, &mut bytes);
     let File::Bytes(m) = other else {
         return false;
     };
     let b = files::image(&bytes[..m], &mut second);
-    let third = shell::read_argument(i + 2, &mut bytes);
+    let third = shell::read_argument(rt, i + 2, &mut bytes);
     let File::Bytes(l) = third else {
         return false;
     };
     let c = files::image(&bytes[..l], &mut list);
-    judge_words(&first[..a], &second[..b], &list[..c])
+    judge_words(rt, &first[..a], &second[..b], &list[..c])
 }
 
-fn main() {
-    let count = os::arg_count();
+fn main(rt: HostRuntime) {
+    let count = shell::argument_count(&rt);
     if count < 4 {
-        shell::say(b"too few arguments: check_tables FIRST SECOND LIST [FIRST SECOND LIST ..]\n");
+        shell::say(
+            &rt,
+            b"too few arguments: check_tables FIRST SECOND LIST [FIRST SECOND LIST ..]\n",
+        );
         return;
     }
     if count % 3 != 1 {
         shell::say(
+            &rt,
             b"the arguments are no triples: check_tables FIRST SECOND LIST [FIRST SECOND LIST ..]\n",
         );
         return;
     }
     let mut i = 1;
     while i < count {
-        if !judge_files(i) {
+        if !judge_files(&rt, i) {
             return;
         }
         i += 3;

@@ -1,5 +1,7 @@
 // What both programs read and print: the words of a file's bytes, low byte first, a decimal number in an argument, and the lines of
 // couples, ends and answers. Every public function takes any arguments. Assumes nothing.
+#![tactic(auto)]
+
 ghost use Rattle.std.specs.Prelude.{◌≡◌, ◌+◌, ◌≤◌, length};
 ghost use Rattle.model.specs.Word.{base, signed};
 ghost use Rattle.files.specs.Files.{word_of, taken_of, filled_of, lent_of, number_of, decimal_of, printed_of, placed};

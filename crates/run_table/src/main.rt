@@ -1,7 +1,9 @@
 // `run_table TABLE INPUT [LIMIT [ROOM]]` runs a table on given words. It prints a line `port value` for each couple that the run wrote,
 // with the signed number of the word, and then `end number state edges`; a refused run prints `number image record` alone. What it was
 // called with wrongly, or cannot read, it says in one line on standard error, and prints nothing. The limit is 10,000 edges and the room
-// 4,096 words unless numbers are given. What the lines hold is proved; that they are printed rests on the C library's contracts.
+// 4,096 words unless numbers are given. What the lines hold is proved; that they are printed rests on std.
+#![tactic(auto)]
+
 ghost use Rattle.std.specs.Prelude.{◌≡◌, ◌+◌, ◌*◌, ◌≤◌, length};
 ghost use Rattle.files.specs.Files.{placed};
 ghost use Rattle.files.specs.Lines.{Front, three_of, couple_lines};
@@ -10,6 +12,7 @@ ghost use Rattle.run_table.specs.Text.{room_of, end_text, text_of, run_text};
 use files::Decimal;
 use run::Trial;
 use shell::{Argument, File};
+use std::rt::Env;
 
 // The limit on edges where none is given.
 const LIMIT: u32 = 10000;
@@ -18,12 +21,12 @@ const LIMIT: u32 = 10000;
 const ROOM: u32 = 4096;
 
 // The number that an argument writes, or another where there is no such argument.
-fn setting(i: usize, count: usize, otherwise: u32) -> Decimal {
+fn setting(rt: &impl Env, i: usize, count: usize, otherwise: u32) -> Decimal {
     if count <= i {
         return Decimal::Word(otherwise);
     }
-    let mut text = io::buffer();
-    let taken = shell::take_argument(i, &mut text);
+    let mut text = shell::buffer();
+    let taken = shell::take_argument(rt, i, &mut text);
     match taken {
         Argument::Unfit => Decimal::NotOne,
         Argument::Text(n) => files::number(&text[..n]),
@@ -117,63 +120,69 @@ fn whole_room() -> [u32; 4096]
 }
 
 // Runs a table on words and prints what the run says.
-fn run_words(table: &[u32], input: &[u32], limit: u32, room: usize)
+fn run_words(rt: &HostRuntime, table: &[u32], input: &[u32], limit: u32, room: usize)
     requires { room ≤ 4096 }
 {
     let mut words = whole_room();
-    let mut text = io::large_buffer();
+    let mut text = shell::large_buffer();
     let n = run_text(table, input, limit, &mut words[..room], &mut text);
-    shell::print(&text[..n]);
+    shell::print(rt, &text[..n]);
 }
 
 // Reads the two files and runs the table of the first on the words of the second.
-fn run_files(limit: u32, room: usize)
+fn run_files(rt: &HostRuntime, limit: u32, room: usize)
     requires { room ≤ 4096 }
 {
-    let mut bytes = io::large_buffer();
+    let mut bytes = shell::large_buffer();
     let mut table = [0u32; 4298];
     let mut input = [0u32; 8192];
-    let first = shell::read_argument(1, &mut bytes);
+    let first = shell::read_argument(rt, 1, &mut bytes);
     let File::Bytes(n) = first else {
         return;
     };
     let t = files::image(&bytes[..n], &mut table);
-    let second = shell::read_argument(2, &mut bytes);
+    let second = shell::read_argument(rt, 2, &mut bytes);
     let File::Bytes(m) = second else {
         return;
     };
     let i = files::input(&bytes[..m], &mut input);
-    run_words(&table[..t], &input[..i], limit, room);
+    run_words(rt, &table[..t], &input[..i], limit, room);
 }
 
 // Runs with a limit, if the room is right.
-fn run_within(limit: u32, count: usize) {
-    let taken = setting(4, count, ROOM);
+fn run_within(rt: &HostRuntime, limit: u32, count: usize) {
+    let taken = setting(rt, 4, count, ROOM);
     match taken {
-        Decimal::NotOne => shell::say(b"ROOM must be a number of words, 0 to 4096\n"),
+        Decimal::NotOne => shell::say(rt, b"ROOM must be a number of words, 0 to 4096\n"),
         Decimal::Word(room) => {
             if ROOM < room {
-                shell::say(b"ROOM must be a number of words, 0 to 4096\n");
+                shell::say(rt, b"ROOM must be a number of words, 0 to 4096\n");
                 return;
             }
-            run_files(limit, room as usize);
+            run_files(rt, limit, room as usize);
         }
     }
 }
 
-fn main() {
-    let count = os::arg_count();
+fn main(rt: HostRuntime) {
+    let count = shell::argument_count(&rt);
     if count < 3 {
-        shell::say(b"too few arguments: run_table TABLE INPUT [LIMIT [ROOM]]\n");
+        shell::say(
+            &rt,
+            b"too few arguments: run_table TABLE INPUT [LIMIT [ROOM]]\n",
+        );
         return;
     }
     if 5 < count {
-        shell::say(b"too many arguments: run_table TABLE INPUT [LIMIT [ROOM]]\n");
+        shell::say(
+            &rt,
+            b"too many arguments: run_table TABLE INPUT [LIMIT [ROOM]]\n",
+        );
         return;
     }
-    let taken = setting(3, count, LIMIT);
+    let taken = setting(&rt, 3, count, LIMIT);
     match taken {
-        Decimal::NotOne => shell::say(b"LIMIT must be a number of edges, 0 to 4294967295\n"),
-        Decimal::Word(limit) => run_within(limit, count),
+        Decimal::NotOne => shell::say(&rt, b"LIMIT must be a number of edges, 0 to 4294967295\n"),
+        Decimal::Word(limit) => run_within(&rt, limit, count),
     }
 }

@@ -1,0 +1,17 @@
+-- `files::end_line` meets its contract: the line lies within its buffer, and is appended as it is. Assumes nothing.
+use native.Mathlib.Omega.{arith}
+use lib.ListN.{replicate}
+use Rattle.files.specs.Lines.{end_line}
+use Rattle.files.proofs.Lined.{length_end, formed_within, formed_appended}
+use Rattle.files.proofs.end_line.Goals as goal
+
+pub slice_bounds-line-end : goal.slice_bounds-line-end
+slice_bounds-line-end c = (formed_within (end_line c.args.number c.args.state c.args.edges) (replicate 37 0) (c.form_end-n.ensures.value, c.form_end-n.ensures.out_after) (omega (arith, length_end c.args.number c.args.state c.args.edges (omega arith) (omega arith) (omega arith)))).0
+
+pub slice_bounds-append-end : goal.slice_bounds-append-end
+slice_bounds-append-end c = (formed_within (end_line c.args.number c.args.state c.args.edges) (replicate 37 0) (c.form_end-n.ensures.value, c.form_end-n.ensures.out_after) (omega (arith, length_end c.args.number c.args.state c.args.edges (omega arith) (omega arith) (omega arith)))).1
+
+pub returns : goal.returns
+returns c =
+    let h = formed_appended c.args.at (end_line c.args.number c.args.state c.args.edges) (replicate 37 0) c.args.text.now (c.form_end-n.ensures.value, c.form_end-n.ensures.out_after) (c.append.ensures.value, c.append.ensures.out_after) (omega (arith, length_end c.args.number c.args.state c.args.edges (omega arith) (omega arith) (omega arith))) in
+    record { value = h.0; text_after = h.1 }
