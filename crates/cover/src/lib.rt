@@ -12,7 +12,7 @@ ghost use Rattle.cover.specs.Nodes.{paths_in, visited_of, Placed, false_node, tr
 ghost use Rattle.cover.specs.Ending.{reached_of};
 
 // A node of the tree of choices: its state, how many choices led there, 2 to the power of that number, and those choices as a word.
-#[derive(Drop)]
+#[derive(Clone, Copy)]
 struct Node {
     state: u32,
     depth: u32,
@@ -21,14 +21,14 @@ struct Node {
 }
 
 // What a visit answers: that it fails, or the first path that it left over.
-#[derive(Drop)]
+#[derive(Clone, Copy)]
 enum Visited {
     Failed,
     Next(u32),
 }
 
 // Where choices lead: nowhere, as a state on the way cannot be left so, or to a state.
-#[derive(Drop)]
+#[derive(Clone, Copy)]
 pub enum Reached {
     Stuck,
     At(u32),

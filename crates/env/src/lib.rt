@@ -1,5 +1,7 @@
 // Sums held in arrays of numbers, which are lent, so that no sum is copied that is not asked for. Each contract is an equation with the
 // definitions of specs/Env; a variable of 16 and more has the empty sum. Assumes nothing.
+#![tactic(auto)]
+
 ghost use Rattle.std.specs.Prelude.{◌≡◌, [], ◌+◌, ◌*◌, ◌≤◌, min, length, get_or};
 ghost use Rattle.sum.specs.Packed.{terms_of, as_sum, same_k, symbol_k};
 ghost use Rattle.env.specs.Env.{sum_at, sums_of, stored_in, with_variable, symbols_from};

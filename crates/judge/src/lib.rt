@@ -18,7 +18,7 @@ use side::Followed;
 use sum::Size;
 
 // The answer: a number, which image (1, 2 or 3 for the correspondence) and a record; acceptance is 0 0 0.
-#[derive(Drop)]
+#[derive(Clone, Copy)]
 pub struct Answer {
     pub number: u32,
     pub image: u32,

@@ -2,7 +2,7 @@
 -- 01, "The normal sum": "shorter lists first, then by first differing symbol, the lower first". The lists are those whose symbols are
 -- below 127. Assumes nothing.
 use Prim.Native.Nat.{ℕ, zero, suc, ◌+◌, ◌*◌, ◌/◌, ◌%◌, ◌≤◌, ◌<◌}
-use mathlib.Core.Path.{◌≡◌, refl, sym, ◌∙◌, ap}
+use mathlib.Core.Path.{subst, ◌≡◌, refl, sym, ◌∙◌, ap}
 use mathlib.Core.Logic.{◌⊎◌, inl, inr, ⊎_elim}
 use mathlib.Core.Bool.{Bool, true, false, cond, ◌&&◌, ◌||◌}
 use mathlib.Core.List.{List, [], ◌∷◌, ◌++◌}
@@ -251,7 +251,7 @@ unfolding Rising AtMost
 all_same a [] r h = refl
 all_same a (y ∷ m) r h =
     let e : y ≡ a = omega (arith, r.0, h.0) in
-    let q : Rising (a ∷ m) = rw e at r.1 in
+    let q : Rising (a ∷ m) = subst (λ k. Rising (k ∷ m)) e r.1 in
     rw e (ap (λ k. a ∷ k) (all_same a m q h.1))
 
 -- A rising list without its first symbol is rising.

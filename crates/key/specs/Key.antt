@@ -1,7 +1,7 @@
 -- Symbol lists packed into numbers. The symbols of a term, a rising list of at most 4 symbols below 127, are the digits of one
 -- number to the base 128, each symbol x as the digit x + 1, the first symbol most significant. So no digit is 0, a shorter list is a
 -- smaller number, and lists of one length compare as 01 orders them, "by first differing symbol, the lower first". Assumes nothing.
-use Rattle.std.specs.Prelude.{ℕ, zero, suc, ◌+◌, ◌*◌, ◌/◌, ◌%◌, ◌<◌, Bool, cond, List, [], ◌∷◌, leb, ltb, eqb}
+use Rattle.std.specs.Prelude.{ℕ, zero, suc, ◌+◌, ◌*◌, ◌/◌, ◌%◌, ◌<◌, cond, List, [], ◌∷◌, leb, ltb, eqb}
 use Rattle.key.specs.declared.Merged.{Merged}
 use Rattle.key.specs.declared.Merged.TheVariants.{TooMany, Packed}
 

@@ -1,5 +1,7 @@
 // Symbol lists packed into numbers: how many symbols a packed list has, the list of one symbol, and two lists merged into one. The
 // digits and their order are those of `specs/Key.antt`. Every function takes any number. Assumes nothing.
+#![tactic(auto)]
+
 ghost use Rattle.std.specs.Prelude.{◌≡◌};
 ghost use Rattle.key.specs.Key.{symbol_of, count_of, merged_of};
 

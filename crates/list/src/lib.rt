@@ -13,7 +13,7 @@ use fault::Checked;
 use table::word_at;
 
 // The areas of records.
-#[derive(Drop)]
+#[derive(Clone, Copy)]
 enum Area {
     Links,
     Paths,
@@ -21,14 +21,14 @@ enum Area {
 }
 
 // The fields of a link: the first's variable and the second's.
-#[derive(Drop)]
+#[derive(Clone, Copy)]
 pub struct LinkRecord {
     pub first: u32,
     pub second: u32,
 }
 
 // The fields of a path: edges in the first and its choices, edges in the second and its choices, target pair, mark.
-#[derive(Drop)]
+#[derive(Clone, Copy)]
 pub struct PathRecord {
     pub length: u32,
     pub choices: u32,
@@ -40,7 +40,7 @@ pub struct PathRecord {
 
 // The fields of a pair: the first's state and the second's, the range of its links (the first of them and how many), and the range
 // of its paths.
-#[derive(Drop)]
+#[derive(Clone, Copy)]
 pub struct PairRecord {
     pub first: u32,
     pub second: u32,
@@ -52,7 +52,7 @@ pub struct PairRecord {
 
 // What the records are held to: how many states the first table has and the second, how many pairs, links and paths there are, and
 // where the links and the paths begin.
-#[derive(Drop)]
+#[derive(Clone, Copy)]
 struct Limits {
     first: u32,
     second: u32,

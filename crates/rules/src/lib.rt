@@ -15,14 +15,14 @@ ghost use Rattle.rules.specs.Rules.{constant_in, whole_of, settled_in, settled_o
 use word::Kind;
 
 // What a condition's test comes to: it is open, or constant.
-#[derive(Drop)]
+#[derive(Clone, Copy)]
 pub enum Settled {
     Open,
     Constant(bool),
 }
 
 // The constant that a sum is: it varies, or is a word.
-#[derive(Drop)]
+#[derive(Clone, Copy)]
 enum Whole {
     Varies,
     Word(u32),

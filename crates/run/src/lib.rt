@@ -13,7 +13,7 @@ use fault::Checked;
 use table::{ActionRecord, StateRecord};
 
 // How a trial run ended: the number, image and record, the state reached, the edges done, the couples written and the variables.
-#[derive(Drop)]
+#[derive(Clone, Copy)]
 pub struct Trial {
     pub number: u32,
     pub image: u32,
@@ -28,7 +28,7 @@ pub struct Trial {
 const LACKING: usize = 17;
 
 // A word taken from a port, and the place from which the port's next word is looked for.
-#[derive(Drop)]
+#[derive(Clone, Copy)]
 struct Word {
     word: u32,
     next: usize,

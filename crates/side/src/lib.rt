@@ -21,7 +21,7 @@ pub const CONDITIONS: usize = 32;
 pub const ON_A_PORT: usize = 16;
 
 // The conditions so far, and whether that of a state fits.
-#[derive(Drop)]
+#[derive(Clone, Copy)]
 struct Asked {
     n: usize,
     size: Size,
@@ -29,7 +29,7 @@ struct Asked {
 
 // What following answers, beside what it leaves in the arrays: the state reached, the number of conditions, and of reads and writes on each
 // port; too large where it was stuck there.
-#[derive(Drop)]
+#[derive(Clone, Copy)]
 pub struct Followed {
     pub state: u32,
     pub conditions: usize,

@@ -2,6 +2,8 @@
 // subtracted, negated, multiplied and compared. Each contract is an equation on the whole answer with the definitions of specs/Packed; a count
 // over 16 is read as 16, and entries past the count of a result are zero. Terms are collected in two lent arrays, coefs and monos, of which
 // the first n entries count. Assumes nothing.
+#![tactic(auto)]
+
 ghost use Rattle.std.specs.Prelude.{◌≡◌, [], ◌∷◌, ◌++◌, suc, ◌+◌, ◌-◌, ◌≤◌, ◌<◌, min, length, take, drop, get_or, replicate};
 ghost use Rattle.model.specs.Word.{base};
 ghost use Rattle.model.specs.Sum.{too_large};
@@ -10,35 +12,35 @@ ghost use Rattle.sum.specs.Packed.{keep_k, joined_k, insert_k, collect_k, fit_k,
 use key::Merged;
 
 // A coefficient, and the packed list of its symbols.
-#[derive(Drop)]
+#[derive(Clone, Copy)]
 pub struct Term {
     pub coef: u32,
     pub mono: u32,
 }
 
 // At most 16 terms; entries past n are not read.
-#[derive(Drop)]
+#[derive(Clone, Copy)]
 pub struct Sum {
     pub n: usize,
     pub terms: [Term; 16],
 }
 
 // Whether an operation's result fits a sum.
-#[derive(Drop)]
+#[derive(Clone, Copy)]
 pub enum Size {
     Fits,
     TooLarge,
 }
 
 // How many terms are collected, and whether each product was one of at most 4 symbols.
-#[derive(Drop)]
+#[derive(Clone, Copy)]
 struct Grown {
     n: usize,
     size: Size,
 }
 
 // What an operation answers: the sum, which is empty where it is too large.
-#[derive(Drop)]
+#[derive(Clone, Copy)]
 pub struct Added {
     pub sum: Sum,
     pub size: Size,

@@ -11,7 +11,7 @@ use expr::Extent;
 use fault::Checked;
 
 // The areas of records.
-#[derive(Drop)]
+#[derive(Clone, Copy)]
 pub enum Area {
     States,
     Actions,
@@ -19,7 +19,7 @@ pub enum Area {
 }
 
 // The fields of a state.
-#[derive(Drop)]
+#[derive(Clone, Copy)]
 pub struct StateRecord {
     pub kind: u32,
     pub left: u32,
@@ -29,7 +29,7 @@ pub struct StateRecord {
 }
 
 // The fields of an edge: its target, and the range of its actions.
-#[derive(Drop)]
+#[derive(Clone, Copy)]
 pub struct EdgeRecord {
     pub target: u32,
     pub first: u32,
@@ -37,7 +37,7 @@ pub struct EdgeRecord {
 }
 
 // The fields of an action: its kind, and the variable or port and the expression's start or variable.
-#[derive(Drop)]
+#[derive(Clone, Copy)]
 pub struct ActionRecord {
     pub kind: u32,
     pub a: u32,
@@ -45,14 +45,14 @@ pub struct ActionRecord {
 }
 
 // Where the edges and the actions begin.
-#[derive(Drop)]
+#[derive(Clone, Copy)]
 struct Offsets {
     edges: u32,
     actions: u32,
 }
 
 // The variable that an action sets.
-#[derive(Drop)]
+#[derive(Clone, Copy)]
 enum Set {
     Nothing,
     Variable(u32),
