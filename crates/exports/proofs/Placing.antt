@@ -7,7 +7,7 @@ use native.Mathlib.Omega.{arith}
 use denote.Laws.{Is}
 use denote.Struct.Declared.{row}
 use denote.Struct.Laws.{val}
-use lib.ListN.{length, get_or, take, drop, set, length-set, length-map, length-drop, drop_of_length-le, take-append-drop}
+use lib.ListN.{length, get_or, take, drop, set, length-set, length-drop, drop_of_length-le, take-append-drop}
 use lib.Seq.{take_all, length-take-le}
 use Rattle.files.proofs.Bytes.{front_store}
 use Rattle.run.specs.declared.Trial.{Trial}
@@ -18,7 +18,7 @@ use Rattle.exports.specs.Numbers.{numbers_of, three_numbers_of}
 
 -- An answer has 16 variables.
 pub trial_full : (t : Trial) → Is (row trial.the_type) t (val trial.the_type trial_laws.the_laws t ∷ []) → length t.variables ≡ 16
-trial_full t h = simp length-map at h.1.1.1.1.1.1.1.1.0.1.0.1
+trial_full t h = h.1.1.1.1.1.1.1.1.0.1.0.1
 
 -- A store behind a first part.
 set_behind : (p q : List ℕ) (i v : ℕ) → set (p ++ q) (length p + i) v ≡ p ++ set q i v
