@@ -9,7 +9,7 @@ use mathlib.Core.Option.{Option, none, some}
 use native.Mathlib.Omega.{arith}
 use lib.ListN.{length}
 use Rattle.model.specs.Answer.{word}
-use Rattle.model.specs.Table.{State, test, Table, Edge, edge_at, edges_at, state_of, table_of}
+use Rattle.model.specs.Table.{State, Table, Edge, edge_at, edges_at, state_of, table_of}
 use Rattle.model.specs.Path.{choices}
 use Rattle.model.specs.Correspondence.{paths_at, path_at}
 use Rattle.fault.proofs.Along.{up_to_cons, up_to_none}

@@ -1,6 +1,8 @@
 // Rule 11: whether a pair's paths cover the walks from its first state, by a walk of the tree of choices that consumes them in their
 // order. And for rule 12, where a path ends, if it is walkable. Each contract is the model's definition of the same thing. Assumes
 // nothing.
+#![tactic(auto)]
+
 ghost use Rattle.std.specs.Prelude.{◌≡◌, map, ◌+◌, ◌-◌, ◌≤◌, ◌<◌, ◌^◌, ◌%◌, eqb};
 ghost use Rattle.model.specs.Answer.{up_to, word};
 ghost use Rattle.model.specs.Table.{edges_at, table_of};

@@ -1,5 +1,5 @@
-// The library's functions for programs in other languages: what `rt staticlib exports` writes to target/staticlib/libexports.a. A slice is
-// a pointer and a length. Assumes nothing.
+// The library's functions for programs in other languages. Crate `exports_c` calls them under the same names, and is what is linked; in a
+// library for other crates the attributes export nothing. A slice is a pointer and a length. Assumes nothing.
 ghost use Rattle.std.specs.Prelude.{◌≡◌, length};
 ghost use Rattle.model.specs.Word.{base};
 ghost use Rattle.model.specs.Run.{zeros, trial, trial_buffer};

@@ -13,7 +13,7 @@ use Rattle.model.specs.Table.{states, table_of}
 use Rattle.model.specs.Sum.{too_large, fits, symbol_sum}
 use Rattle.model.specs.Path as Model
 use Rattle.model.specs.Path.{choices, walkable, end_state, side, follow}
-use Rattle.model.specs.Correspondence.{pairs, paths, links, link_at, path_at, pair_at}
+use Rattle.model.specs.Correspondence.{pairs, paths, link_at, path_at, pair_at}
 use Rattle.model.specs.Judgement.{start_side, first_side, second_side, judge_path, partner}
 use Rattle.fault.specs.Fault.{checked_of}
 use Rattle.fault.specs.declared.Checked.{Checked}
@@ -121,12 +121,12 @@ module _ (first second list : List ℕ) (checks : Checks first second list) (i :
       one_large : z ≡ TooLarge → follow base (table_of first) bits (first_side (pair_at list i)) ≡ too_large
       one_large h =
           rw first_side_lem
-          (follow_large first p.first r.length r.choices own w.marks w.sums w.written _ path_sound.short (own_stands own oe) w.full-marks w.full-sums w.full-written z f fe h)
+          (follow_large first p.first r.length r.choices own w.marks w.sums w.written _ path_sound.short (own_stands own oe) w.full_marks w.full_sums w.full_written z f fe h)
 
       one_fits : z ≡ Fits → (m : Model.Side) × (follow base (table_of first) bits (first_side (pair_at list i)) ≡ fits m) × Stands f m
       one_fits h =
           rw first_side_lem
-          (follow_fits first p.first r.length r.choices own w.marks w.sums w.written _ path_sound.short (own_stands own oe) w.full-marks w.full-sums w.full-written z f fe h)
+          (follow_fits first p.first r.length r.choices own w.marks w.sums w.written _ path_sound.short (own_stands own oe) w.full_marks w.full_sums w.full_written z f fe h)
 
       -- A marked path.
 
@@ -181,12 +181,12 @@ module _ (first second list : List ℕ) (checks : Checks first second list) (i :
             other_large : y ≡ TooLarge → follow base (table_of second) bits' (second_side (pair_at list i)) ≡ too_large
             other_large h =
                 rw second_side_lem
-                (follow_large second p.second r.second_length r.second_choices linked v.marks v.sums v.written _ path_sound.short2 (linked_stands linked le) v.full-marks v.full-sums v.full-written y g ge h)
+                (follow_large second p.second r.second_length r.second_choices linked v.marks v.sums v.written _ path_sound.short2 (linked_stands linked le) v.full_marks v.full_sums v.full_written y g ge h)
 
             other_fits : y ≡ Fits → (m : Model.Side) × (follow base (table_of second) bits' (second_side (pair_at list i)) ≡ fits m) × Stands g m
             other_fits h =
                 rw second_side_lem
-                (follow_fits second p.second r.second_length r.second_choices linked v.marks v.sums v.written _ path_sound.short2 (linked_stands linked le) v.full-marks v.full-sums v.full-written y g ge h)
+                (follow_fits second p.second r.second_length r.second_choices linked v.marks v.sums v.written _ path_sound.short2 (linked_stands linked le) v.full_marks v.full_sums v.full_written y g ge h)
 
             pub judged_second_large : y ≡ TooLarge → Broken 13 j ≡ Judged
             judged_second_large h =

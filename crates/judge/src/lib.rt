@@ -1,5 +1,7 @@
 // The judgement of a correspondence between two tables: the checks of the three images, then each pair by rules 10 and 11 and its paths
 // by rules 12 to 19, to the first broken rule. The answer is the model's verdict on any three images. Assumes nothing.
+#![tactic(auto)]
+
 ghost use Rattle.std.specs.Prelude.{◌≡◌, true, false, ◌&&◌, map, ◌+◌, ◌<◌, ◌≤◌, ◌^◌, eqb};
 ghost use Rattle.model.specs.Answer.{word};
 ghost use Rattle.model.specs.Word.{base};

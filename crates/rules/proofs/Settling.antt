@@ -1,13 +1,13 @@
 -- What one condition comes to, and when two are alike, each from what was read and tested. Assumes nothing.
 use Prim.Native.Nat.{ℕ, zero, suc, ◌+◌, ◌-◌, ◌*◌, ◌≤◌, ◌<◌, ◌^◌, min}
 use mathlib.Core.Path.{◌≡◌, refl, sym, ◌∙◌, ap}
-use mathlib.Core.Bool.{Bool, true, false, not, beq}
+use mathlib.Core.Bool.{Bool, true, false, beq}
 use mathlib.Core.List.{List, [], ◌∷◌}
 use mathlib.Core.Option.{Option, none, some}
 use native.Mathlib.Omega.{arith}
 use lib.Dec.{eqb}
 use lib.ListN.{get_or}
-use borrow.Author.Tests.{eq-eqb, ne_eqb, not-true, not-false}
+use borrow.Author.Tests.{eq-eqb, ne_eqb}
 use Rattle.model.specs.Word.{base, wrap, holds, Kind, equal}
 use Rattle.model.specs.Table.{kind_of}
 use Rattle.model.specs.Judgement.{same_kind, settled_by, settled_as}
@@ -145,21 +145,21 @@ module _ (c d : Condition) (b : Bool) where
     kinds_same : eqb c.kind d.kind ≡ true
     kinds_same = eq-eqb _ _ kinds
 
-    pub like_left : not l ≡ true → false ≡ like_in c b d
+    pub like_left : l ≡ false → false ≡ like_in c b d
     unfolding like_in same_test_in
-    like_left h = let q : same_k c.left d.left ≡ false = sym lefts ∙ not-true l h in rw (kinds_same, q) refl
+    like_left h = let q : same_k c.left d.left ≡ false = sym lefts ∙ h in rw (kinds_same, q) refl
 
-    module _ {r : Bool} (same_left : not l ≡ false) (rights : r ≡ same_k c.right d.right) where
+    module _ {r : Bool} (same_left : l ≡ true) (rights : r ≡ same_k c.right d.right) where
       lefts_same : same_k c.left d.left ≡ true
-      lefts_same = sym lefts ∙ not-false l same_left
+      lefts_same = sym lefts ∙ same_left
 
-      pub like_right : not r ≡ true → false ≡ like_in c b d
+      pub like_right : r ≡ false → false ≡ like_in c b d
       unfolding like_in same_test_in
-      like_right h = let q : same_k c.right d.right ≡ false = sym rights ∙ not-true r h in rw (kinds_same, lefts_same, q) refl
+      like_right h = let q : same_k c.right d.right ≡ false = sym rights ∙ h in rw (kinds_same, lefts_same, q) refl
 
-      pub like_side : {t : Bool} → not r ≡ false → t ≡ d.taken → beq b t ≡ like_in c b d
+      pub like_side : {t : Bool} → r ≡ true → t ≡ d.taken → beq b t ≡ like_in c b d
       unfolding like_in same_test_in
-      like_side h e = let q : same_k c.right d.right ≡ true = sym rights ∙ not-false r h in ap (beq b) e ∙ rw (kinds_same, lefts_same, q) refl
+      like_side h e = let q : same_k c.right d.right ≡ true = sym rights ∙ h in ap (beq b) e ∙ rw (kinds_same, lefts_same, q) refl
 
 -- A link is kept where the two sums are the same.
 pub keeps_is : (first second : List ℕ) (v u : ℕ) {a b : Sum} {r : Bool} → a ≡ as_sum (get_or (sums_of first) v []) → b ≡ as_sum (get_or (sums_of second) u []) → r ≡ same_k (terms_of a) (terms_of b) → r ≡ keeps_in first v second u

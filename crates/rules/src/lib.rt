@@ -2,6 +2,8 @@
 // (15), whether second conditions are assured (16), whether reads and writes are the same (17, 18), and whether links are kept (19).
 // Conditions and written sums are read where they are held. Each contract is an equation with the definitions of specs/Rules. Assumes
 // nothing.
+#![tactic(auto)]
+
 ghost use Rattle.std.specs.Prelude.{◌≡◌, ◌+◌, ◌*◌, ◌≤◌, ◌<◌, ◌^◌, min, eqb, get_or};
 ghost use Rattle.model.specs.Word.{base, wrap, equal};
 ghost use Rattle.model.specs.Sum.{same};

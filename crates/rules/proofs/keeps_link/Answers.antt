@@ -1,0 +1,6 @@
+-- `rules::keeps_link` is whether two variables have the same sum. Assumes nothing.
+use Rattle.rules.proofs.Settling.{keeps_is}
+use Rattle.rules.proofs.keeps_link.Goals as goal
+
+pub returns : goal.returns
+returns c = keeps_is _ _ _ _ c.get-a.ensures c.get-b.ensures c.same.ensures
