@@ -3,7 +3,7 @@
 #![tactic(auto)]
 
 // What a check finds: nothing wrong, or the number of the first fault and its record.
-#[derive(Drop)]
+#[derive(Clone, Copy)]
 pub enum Checked {
     Sound,
     Broken { number: u32, record: u32 },

@@ -46,16 +46,16 @@ word_at_lem (b0 ∷ b1 ∷ b2 ∷ b3 ∷ l) (suc i) h =
 
 -- Which of three `by_fit` gives.
 
-module _ {A : Type 0} (l : List ℕ) (room : ℕ) (whole ragged tooLong : A) where
-  fit_ragged : (length l % 4 ≡ 0 → ⊥) → ragged ≡ by_fit l room whole ragged tooLong
+module _ {A : Type 0} (l : List ℕ) (room : ℕ) (whole ragged too_long : A) where
+  fit_ragged : (length l % 4 ≡ 0 → ⊥) → ragged ≡ by_fit l room whole ragged too_long
   unfolding by_fit
   fit_ragged h = rw (ne_eqb (length l % 4) 0 h) refl
 
-  fit_long : length l % 4 ≡ 0 → room < length l / 4 → tooLong ≡ by_fit l room whole ragged tooLong
+  fit_long : length l % 4 ≡ 0 → room < length l / 4 → too_long ≡ by_fit l room whole ragged too_long
   unfolding by_fit
   fit_long h k = rw (eq-eqb (length l % 4) 0 h, lt-leb (length l / 4) room k) refl
 
-  fit_whole : length l % 4 ≡ 0 → length l / 4 ≤ room → whole ≡ by_fit l room whole ragged tooLong
+  fit_whole : length l % 4 ≡ 0 → length l / 4 ≤ room → whole ≡ by_fit l room whole ragged too_long
   unfolding by_fit
   fit_whole h k = rw (eq-eqb (length l % 4) 0 h, le-leb (length l / 4) room k) refl
 

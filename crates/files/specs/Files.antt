@@ -21,8 +21,8 @@ words_of (b0 ∷ b1 ∷ b2 ∷ b3 ∷ l) = word_of b0 b1 b2 b3 ∷ words_of l
 
 -- One of three, by whether the bytes are whole words and, where they are, by whether the room has as many words.
 unfoldable pub by_fit : {A : Type 0} → List ℕ → ℕ → A → A → A → A
-by_fit bytes room whole ragged tooLong =
-    cond (eqb (length bytes % 4) 0) (cond (leb (length bytes / 4) room) whole tooLong) ragged
+by_fit bytes room whole ragged too_long =
+    cond (eqb (length bytes % 4) 0) (cond (leb (length bytes / 4) room) whole too_long) ragged
 
 -- What taking the words of the bytes into a room of so many words answers: a length that is no multiple of four, more words than the
 -- room has, or how many words were taken.

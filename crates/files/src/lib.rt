@@ -8,7 +8,7 @@ ghost use Rattle.files.specs.Files.{word_of, taken_of, filled_of, lent_of, numbe
 ghost use Rattle.files.specs.Lines.{Front, three_of, couple_line, end_line, behind, appended};
 
 // What taking words gives: how many were taken, or why none were.
-#[derive(Drop)]
+#[derive(Clone, Copy)]
 pub enum Taken {
     Whole(usize),
     Ragged,
@@ -16,7 +16,7 @@ pub enum Taken {
 }
 
 // What reading a number gives: the word, or that the text is no number of a word.
-#[derive(Drop)]
+#[derive(Clone, Copy)]
 pub enum Decimal {
     Word(u32),
     NotOne,

@@ -318,7 +318,7 @@ fn judge_paths(
 ) -> Checked
     requires checks { Checks first.now second.now list.now }
     requires i_bound { (i < pairs list.now) × OwnSymbols own.now }
-    requires i_value { rule11 (table_of first.now) 32 (pair_at list.now i).first (map (λ p. p.first) (pair_at list.now i).paths) ≡ true }
+    requires covered { rule11 (table_of first.now) 32 (pair_at list.now i).first (map (λ p. p.first) (pair_at list.now i).paths) ≡ true }
     ensures { result ≡ paths_found first.now second.now list.now i }
 {
     let pair = list::pair(list, i);

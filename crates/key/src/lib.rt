@@ -19,7 +19,7 @@ const FOUR: u32 = BASE * THREE;
 const FIVE: u32 = BASE * FOUR;
 
 // What a merge of two packed lists gives: more symbols than a term has, or the packed list of both.
-#[derive(Drop)]
+#[derive(Clone, Copy)]
 pub enum Merged {
     TooMany,
     Packed(u32),

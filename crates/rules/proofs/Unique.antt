@@ -5,10 +5,10 @@ use Rattle.model.proofs.Basics.{one_answer}
 use Rattle.rules.proofs.settle.Reads as settle
 use Rattle.rules.proofs.contradicts.Reads as contradicts
 use Rattle.rules.proofs.assured.Reads as assured
-use Rattle.rules.proofs.same_reads.Reads as same_Reads
+use Rattle.rules.proofs.same_reads.Reads as same_reads
 use Rattle.rules.proofs.same_writes.Reads as same_writes
 use Rattle.rules.proofs.keeps_link.Reads as keeps_link
-use Rattle.rules.proofs.keeps_links.Reads as keeps_links_lem
+use Rattle.rules.proofs.keeps_links.Reads as keeps_links
 
 pub settle_unique : (κs : _) (a : _) (r r' : _) (s s' : _) → settle.Post κs a r s → settle.Post κs a r' s' → r ≡ r'
 settle_unique κs a r r' s s' p q = one_answer p q
@@ -19,7 +19,7 @@ contradicts_unique κs a r r' s s' p q = one_answer p q
 pub assured_unique : (κs : _) (a : _) (r r' : _) (s s' : _) → assured.Post κs a r s → assured.Post κs a r' s' → r ≡ r'
 assured_unique κs a r r' s s' p q = one_answer p q
 
-pub same_reads_unique : (κs : _) (a : _) (r r' : _) (s s' : _) → same_Reads.Post κs a r s → same_Reads.Post κs a r' s' → r ≡ r'
+pub same_reads_unique : (κs : _) (a : _) (r r' : _) (s s' : _) → same_reads.Post κs a r s → same_reads.Post κs a r' s' → r ≡ r'
 same_reads_unique κs a r r' s s' p q = one_answer p q
 
 pub same_writes_unique : (κs : _) (a : _) (r r' : _) (s s' : _) → same_writes.Post κs a r s → same_writes.Post κs a r' s' → r ≡ r'
@@ -28,5 +28,5 @@ same_writes_unique κs a r r' s s' p q = one_answer p q
 pub keeps_link_unique : (κs : _) (a : _) (r r' : _) (s s' : _) → keeps_link.Post κs a r s → keeps_link.Post κs a r' s' → r ≡ r'
 keeps_link_unique κs a r r' s s' p q = one_answer p q
 
-pub keeps_links_unique : (κs : _) (a : _) (r r' : _) (s s' : _) → keeps_links_lem.Post κs a r s → keeps_links_lem.Post κs a r' s' → r ≡ r'
+pub keeps_links_unique : (κs : _) (a : _) (r r' : _) (s s' : _) → keeps_links.Post κs a r s → keeps_links.Post κs a r' s' → r ≡ r'
 keeps_links_unique κs a r r' s s' p q = one_answer p q

@@ -158,11 +158,11 @@ fn act(
     written: usize,
     out: &mut [u32],
 ) -> usize
-    requires a_bound { (action.kind ≡ 0 → action.a < 16) × (1 ≤ action.kind → action.a < 4) × (action.kind ≡ 1 → action.b < 16) × ((action.kind ≡ 1 → ⊥) → is_parsed (read_at code.now action.b) ≡ true) }
-    requires next_len { length next.old ≡ 4 }
-    requires b_in_bounds { written + 2 * writes_of (action_of code.now action.kind action.a action.b) ≤ length out.old }
+    requires fits { (action.kind ≡ 0 → action.a < 16) × (1 ≤ action.kind → action.a < 4) × (action.kind ≡ 1 → action.b < 16) × ((action.kind ≡ 1 → ⊥) → is_parsed (read_at code.now action.b) ≡ true) }
+    requires places { length next.old ≡ 4 }
+    requires room { written + 2 * writes_of (action_of code.now action.kind action.a action.b) ≤ length out.old }
     ensures out_after { held_of input.now (hand variables.new next.new result) out.new ≡ act_h base before.now (action_of code.now action.kind action.a action.b) (held_of input.now (hand variables.old next.old written) out.old) }
-    ensures next_len_2 { length next.new ≡ 4 }
+    ensures places { length next.new ≡ 4 }
 {
     if action.kind == 0 {
         let variable = action.a as usize;
@@ -195,11 +195,11 @@ fn perform(
     begun: usize,
     out: &mut [u32],
 ) -> usize
-    requires table_value { (table_fault table.now ≡ sound) × (at ≡ word table.now 7) × (code.now ≡ code_area table.now) × (first + count ≤ actions table.now) }
-    requires next_len { length next.old ≡ 4 }
-    requires count_in_bounds { begun + 2 * writes_in (map (action_at table.now) (up_to first count)) ≤ length out.old }
+    requires sound { (table_fault table.now ≡ sound) × (at ≡ word table.now 7) × (code.now ≡ code_area table.now) × (first + count ≤ actions table.now) }
+    requires places { length next.old ≡ 4 }
+    requires room { begun + 2 * writes_in (map (action_at table.now) (up_to first count)) ≤ length out.old }
     ensures out_after { held_of input.now (hand variables.new next.new result) out.new ≡ act_all_h base variables.old (map (action_at table.now) (up_to first count)) (held_of input.now (hand variables.old next.old begun) out.old) }
-    ensures next_len_2 { length next.new ≡ 4 }
+    ensures places { length next.new ≡ 4 }
 {
     let before = *variables;
     let mut written = begun;

@@ -15,14 +15,14 @@ use std::rt::Env;
 use std::{fs, io};
 
 // What reading a file gives: how many bytes were read, or that it cannot be read.
-#[derive(Drop)]
+#[derive(Clone, Copy)]
 pub enum File {
     Bytes(usize),
     Unreadable,
 }
 
 // What taking an argument gives: how many bytes it has, or that it is missing or longer than a path may be.
-#[derive(Drop)]
+#[derive(Clone, Copy)]
 pub enum Argument {
     Text(usize),
     Unfit,

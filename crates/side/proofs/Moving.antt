@@ -151,17 +151,17 @@ module _ (before code : List ℕ) (r : ActionRecord) (env reads counts written :
         rw (is_assign k, added_fits _ (formed_few before _) formed h) (λ i. whole (record { env = sym e i; reads = reads; writes = writes_as counts written }))
 
     -- A write.
-    module _ {n : ℕ} {b : Bool} (fine : f.size ≡ Fits) (not-assign : r.kind ≡ 0 → ⊥) (counted : n ≡ count_on counts r.a) (asked : b ≡ room_on r.a n) where
+    module _ {n : ℕ} {b : Bool} (fine : f.size ≡ Fits) (not_assign : r.kind ≡ 0 → ⊥) (counted : n ≡ count_on counts r.a) (asked : b ≡ room_on r.a n) where
       pub write_full : b ≡ false → action_k before (action_in code r) (held_as env reads counts written) ≡ stuck (held_as env reads counts written)
       unfolding action_k held_as writes_as after_sum
       write_full h =
           let e : room_on r.a (count_on counts r.a) ≡ false = ap (room_on r.a) (sym counted) ∙ sym asked ∙ h in
-          rw (is_write other not-assign, added_fits _ (formed_few before _) formed fine, e) refl
+          rw (is_write other not_assign, added_fits _ (formed_few before _) formed fine, e) refl
 
       pub write_done : (counts' written' : List ℕ) → b ≡ true → writes_as counts' written' ≡ with_write (writes_as counts written) r.a (terms_of f.sum)
           → action_k before (action_in code r) (held_as env reads counts written) ≡ whole (held_as env reads counts' written')
       unfolding action_k held_as with_given after_sum writes_as
       write_done counts' written' h d =
           let e : room_on r.a (count_on counts r.a) ≡ true = ap (room_on r.a) (sym counted) ∙ sym asked ∙ h in
-          rw (is_write other not-assign, added_fits _ (formed_few before _) formed fine, e)
+          rw (is_write other not_assign, added_fits _ (formed_few before _) formed fine, e)
           (λ i. whole (record { env = env; reads = reads; writes = sym d i }))

@@ -260,8 +260,8 @@ pub fn follow(
     written: &mut [u32; 2112],
 ) -> Followed
     requires { (table_fault image.now ≡ sound) × ((state < states image.now) × (steps ≤ 32)) }
-    ensures written_after { sized_as result.size (side_of result env.new marks.new sums.new written.new) ≡ follow_k (table_of image.now) (choices_of steps choices) (start_as state env.old marks.old sums.old written.old) }
-    ensures marks_len { (length marks.old ≡ 64) × ((length sums.old ≡ 2112) × (length written.old ≡ 2112)) }
+    ensures followed { sized_as result.size (side_of result env.new marks.new sums.new written.new) ≡ follow_k (table_of image.now) (choices_of steps choices) (start_as state env.old marks.old sums.old written.old) }
+    ensures lengths { (length marks.old ≡ 64) × ((length sums.old ≡ 2112) × (length written.old ≡ 2112)) }
 {
     lent(marks);
     lent(sums);

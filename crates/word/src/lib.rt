@@ -47,7 +47,7 @@ pub fn signed(x: u32) -> i64
 }
 
 // The three kinds of test.
-#[derive(Drop)]
+#[derive(Clone, Copy)]
 pub enum Kind {
     Equal,
     SignedLess,

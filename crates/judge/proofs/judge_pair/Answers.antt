@@ -14,7 +14,7 @@ pub returns-then-not-covers : goal.returns-then-not-covers
 returns-then-not-covers c = pair_uncovered _ _ _ c.requires.checks _ c.requires.i_bound.0 c.pair-pair.ensures c.stops-one.ensures c.stops-other.ensures (not-false _ c.if-one-other.false) c.covers.ensures c.if-not-covers.true
 
 pub judge_paths-requires : goal.judge_paths-requires
-judge_paths-requires c = record { checks = c.requires.checks; i_bound = c.requires.i_bound; i_value = pair_covered _ _ _ c.requires.checks _ c.requires.i_bound.0 c.pair-pair.ensures c.stops-one.ensures c.stops-other.ensures (not-false _ c.if-one-other.false) c.covers.ensures c.if-not-covers.false }
+judge_paths-requires c = record { checks = c.requires.checks; i_bound = c.requires.i_bound; covered = pair_covered _ _ _ c.requires.checks _ c.requires.i_bound.0 c.pair-pair.ensures c.stops-one.ensures c.stops-other.ensures (not-false _ c.if-one-other.false) c.covers.ensures c.if-not-covers.false }
 
 pub returns : goal.returns
 returns c = pair_found_lem _ _ _ c.requires.checks _ c.requires.i_bound.0 c.pair-pair.ensures c.stops-one.ensures c.stops-other.ensures (not-false _ c.if-one-other.false) c.covers.ensures c.if-not-covers.false c.judge_paths.ensures

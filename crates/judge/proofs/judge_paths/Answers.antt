@@ -14,7 +14,7 @@ pub overflow_add-begin : goal.overflow_add-begin
 overflow_add-begin c = omega (arith, (path_among _ _ _ c.requires.checks _ c.requires.i_bound.0 c.pair-pair.ensures _ c.loop-k-test.true).1)
 
 pub judge_path-requires : goal.judge_path-requires
-judge_path-requires c = record { checks = c.requires.checks; i_bound = (c.requires.i_bound.0, (path_among _ _ _ c.requires.checks _ c.requires.i_bound.0 c.pair-pair.ensures _ c.loop-k-test.true).0); walked = path_walked _ _ _ c.requires.checks _ c.requires.i_bound.0 c.pair-pair.ensures c.requires.i_value _ c.loop-k-test.true; own_symbols = (c.requires.i_bound.1, linked_is _ _ _ c.requires.checks _ c.requires.i_bound.0 c.pair-pair.ensures c.partners-symbols.ensures c.symbols.ensures) }
+judge_path-requires c = record { checks = c.requires.checks; i_bound = (c.requires.i_bound.0, (path_among _ _ _ c.requires.checks _ c.requires.i_bound.0 c.pair-pair.ensures _ c.loop-k-test.true).0); walked = path_walked _ _ _ c.requires.checks _ c.requires.i_bound.0 c.pair-pair.ensures c.requires.covered _ c.loop-k-test.true; own_symbols = (c.requires.i_bound.1, linked_is _ _ _ c.requires.checks _ c.requires.i_bound.0 c.pair-pair.ensures c.partners-symbols.ensures c.symbols.ensures) }
 
 pub returns-in-Broken : goal.returns-in-Broken
 returns-in-Broken c = along_broken _ _ _ c.loop-k.invariant c.loop-k-test.true c.judge_path.ensures c.in-Broken.is ∙ ap checked_of (paths_along _ _ _ c.requires.checks _ c.requires.i_bound.0 c.pair-pair.ensures)

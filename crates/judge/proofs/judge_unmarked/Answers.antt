@@ -25,10 +25,10 @@ pub judge_sides-requires : goal.judge_sides-requires
 judge_sides-requires c = target_room _ _ _ c.requires.checks _ c.requires.i_bound.0 c.pair-pair.ensures _ c.requires.i_bound.1 c.word_at.ensures c.path-record.ensures c.pair-target.ensures
 
 pub returns-in-TooLarge : goal.returns-in-TooLarge
-returns-in-TooLarge c = judged_first_large _ _ _ c.requires.checks _ c.requires.i_bound.0 c.pair-pair.ensures _ c.requires.i_bound.1 c.word_at.ensures c.path-record.ensures c.pair-target.ensures c.requires.i_bound.2 c.requires.walked c.leads.ensures c.leads-2.ensures c.if-not-leads.false c.if-not-leads-2.false _ c.requires.own_symbols.0 (arrays _ _ _ c.follow-one.ensures.marks_len) _ _ c.follow-one.ensures.written_after c.in-TooLarge.is
+returns-in-TooLarge c = judged_first_large _ _ _ c.requires.checks _ c.requires.i_bound.0 c.pair-pair.ensures _ c.requires.i_bound.1 c.word_at.ensures c.path-record.ensures c.pair-target.ensures c.requires.i_bound.2 c.requires.walked c.leads.ensures c.leads-2.ensures c.if-not-leads.false c.if-not-leads-2.false _ c.requires.own_symbols.0 (arrays _ _ _ c.follow-one.ensures.lengths) _ _ c.follow-one.ensures.followed c.in-TooLarge.is
 
 pub returns-in-TooLarge-other_size : goal.returns-in-TooLarge-other_size
-returns-in-TooLarge-other_size c = judged_second_large _ _ _ c.requires.checks _ c.requires.i_bound.0 c.pair-pair.ensures _ c.requires.i_bound.1 c.word_at.ensures c.path-record.ensures c.pair-target.ensures c.requires.i_bound.2 c.requires.walked c.leads.ensures c.leads-2.ensures c.if-not-leads.false c.if-not-leads-2.false _ c.requires.own_symbols.0 (arrays _ _ _ c.follow-one.ensures.marks_len) _ _ c.follow-one.ensures.written_after c.in-Fits.is _ c.requires.own_symbols.1 (arrays _ _ _ c.follow-other.ensures.marks_len) _ _ c.follow-other.ensures.written_after c.in-TooLarge-other_size.is
+returns-in-TooLarge-other_size c = judged_second_large _ _ _ c.requires.checks _ c.requires.i_bound.0 c.pair-pair.ensures _ c.requires.i_bound.1 c.word_at.ensures c.path-record.ensures c.pair-target.ensures c.requires.i_bound.2 c.requires.walked c.leads.ensures c.leads-2.ensures c.if-not-leads.false c.if-not-leads-2.false _ c.requires.own_symbols.0 (arrays _ _ _ c.follow-one.ensures.lengths) _ _ c.follow-one.ensures.followed c.in-Fits.is _ c.requires.own_symbols.1 (arrays _ _ _ c.follow-other.ensures.lengths) _ _ c.follow-other.ensures.followed c.in-TooLarge-other_size.is
 
 pub returns-in-Fits-other_size : goal.returns-in-Fits-other_size
-returns-in-Fits-other_size c = judged_both _ _ _ c.requires.checks _ c.requires.i_bound.0 c.pair-pair.ensures _ c.requires.i_bound.1 c.word_at.ensures c.path-record.ensures c.pair-target.ensures c.requires.i_bound.2 c.requires.walked c.leads.ensures c.leads-2.ensures c.if-not-leads.false c.if-not-leads-2.false _ c.requires.own_symbols.0 (arrays _ _ _ c.follow-one.ensures.marks_len) _ _ c.follow-one.ensures.written_after c.in-Fits.is _ c.requires.own_symbols.1 (arrays _ _ _ c.follow-other.ensures.marks_len) _ _ c.follow-other.ensures.written_after c.in-Fits-other_size.is c.word_at-in-Fits-other_size.ensures c.judge_sides.ensures
+returns-in-Fits-other_size c = judged_both _ _ _ c.requires.checks _ c.requires.i_bound.0 c.pair-pair.ensures _ c.requires.i_bound.1 c.word_at.ensures c.path-record.ensures c.pair-target.ensures c.requires.i_bound.2 c.requires.walked c.leads.ensures c.leads-2.ensures c.if-not-leads.false c.if-not-leads-2.false _ c.requires.own_symbols.0 (arrays _ _ _ c.follow-one.ensures.lengths) _ _ c.follow-one.ensures.followed c.in-Fits.is _ c.requires.own_symbols.1 (arrays _ _ _ c.follow-other.ensures.lengths) _ _ c.follow-other.ensures.followed c.in-Fits-other_size.is c.word_at-in-Fits-other_size.ensures c.judge_sides.ensures

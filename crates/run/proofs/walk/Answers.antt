@@ -34,10 +34,10 @@ returns-then-out-written c =
 pub perform-written-requires : goal.perform-written-requires
 perform-written-requires c =
     let e = edge_inside _ c.requires.0 _ c.state-record.ensures _ _ c.if-record-eq0.false c.code_area-code.ensures c.chosen.ensures c.word_at-edges_at.ensures c.edge-edge.ensures c.loop-done.invariant.inside in
-    record { table_value = (c.requires.0, c.word_at-actions_at.ensures, c.code_area-code.ensures, e.range); next_len = c.loop-done.invariant.four; count_in_bounds = roomy _ _ _ _ c.requires.0 _ _ _ _ _ c.loop-done.invariant _ _ _ c.loop-done-test.true (goes_on_lem _ c.requires.0 _ c.state-record.ensures c.if-record-eq0.false) (edge_taken _ c.requires.0 _ c.state-record.ensures _ _ c.if-record-eq0.false c.code_area-code.ensures c.chosen.ensures c.word_at-edges_at.ensures c.edge-edge.ensures) c.needs-writes.ensures c.if-writes-gt16.false (omega (arith, c.if-out-written.false)) }
+    record { sound = (c.requires.0, c.word_at-actions_at.ensures, c.code_area-code.ensures, e.range); places = c.loop-done.invariant.four; room = roomy _ _ _ _ c.requires.0 _ _ _ _ _ c.loop-done.invariant _ _ _ c.loop-done-test.true (goes_on_lem _ c.requires.0 _ c.state-record.ensures c.if-record-eq0.false) (edge_taken _ c.requires.0 _ c.state-record.ensures _ _ c.if-record-eq0.false c.code_area-code.ensures c.chosen.ensures c.word_at-edges_at.ensures c.edge-edge.ensures) c.needs-writes.ensures c.if-writes-gt16.false (omega (arith, c.if-out-written.false)) }
 
 pub loop-done-preserved : goal.loop-done-preserved
-loop-done-preserved c = walk_step _ _ _ _ c.requires.0 _ _ _ _ _ c.loop-done.invariant _ _ _ c.loop-done-test.true (goes_on_lem _ c.requires.0 _ c.state-record.ensures c.if-record-eq0.false) (edge_taken _ c.requires.0 _ c.state-record.ensures _ _ c.if-record-eq0.false c.code_area-code.ensures c.chosen.ensures c.word_at-edges_at.ensures c.edge-edge.ensures) c.needs-writes.ensures _ _ (edge_inside _ c.requires.0 _ c.state-record.ensures _ _ c.if-record-eq0.false c.code_area-code.ensures c.chosen.ensures c.word_at-edges_at.ensures c.edge-edge.ensures c.loop-done.invariant.inside).target c.if-writes-gt16.false (omega (arith, c.if-out-written.false)) c.perform-written.ensures.out_after c.perform-written.ensures.next_len_2
+loop-done-preserved c = walk_step _ _ _ _ c.requires.0 _ _ _ _ _ c.loop-done.invariant _ _ _ c.loop-done-test.true (goes_on_lem _ c.requires.0 _ c.state-record.ensures c.if-record-eq0.false) (edge_taken _ c.requires.0 _ c.state-record.ensures _ _ c.if-record-eq0.false c.code_area-code.ensures c.chosen.ensures c.word_at-edges_at.ensures c.edge-edge.ensures) c.needs-writes.ensures _ _ (edge_inside _ c.requires.0 _ c.state-record.ensures _ _ c.if-record-eq0.false c.code_area-code.ensures c.chosen.ensures c.word_at-edges_at.ensures c.edge-edge.ensures c.loop-done.invariant.inside).target c.if-writes-gt16.false (omega (arith, c.if-out-written.false)) c.perform-written.ensures.out_after c.perform-written.ensures.places
 
 pub returns-then-record-eq0-2 : goal.returns-then-record-eq0-2
 returns-then-record-eq0-2 c =
