@@ -1,4 +1,4 @@
-// What touches the system, for both programs: arguments, whole files, standard output and messages on standard error. What is done with
+// What touches the system, for the programs: arguments, whole files, standard output and messages on standard error. What is done with
 // the bytes is in `files`. Rests on std; of what is read and written nothing is proved but that counts lie within their buffers.
 // Where a message is written the runtime itself is taken, and no bound on it: std's `Eprint` writes text alone, and the name of a file may
 // be any bytes.
