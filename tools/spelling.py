@@ -1,7 +1,7 @@
 #!/usr/bin/env python3
 """Brings the names of this repository's definitions and lemmas to today's spelling: words in snake case, dashes only between two names.
 
-usage: tools/spelling.py [--list]      at the top of the repository, once, right after /opt/rattle/port/port.py
+usage: tools/spelling.py [--list]      at the top of the repository, once, right after the toolchain's port.py
 
 A name is turned where it is defined in specs/ or proofs/ of a crate, or given there or in a source by `as`. Names from the code's own
 text, of the kit, and goals that Rattle makes keep theirs. It stops, and writes nothing, where a new name is taken already.
