@@ -1,5 +1,5 @@
-// The library's functions for programs in other languages. Crate `exports_c` calls them under the same names, and is what is linked; in a
-// library for other crates the attributes export nothing. A slice is a pointer and a length. Assumes nothing.
+// The library's functions for programs in other languages, which crate `exports_c` hands out under the same names. A slice is a pointer and a
+// length. Assumes nothing.
 #![tactic(auto)]
 
 ghost use Rattle.std.specs.Prelude.{◌≡◌, length};
@@ -41,8 +41,7 @@ fn put_numbers(t: Trial, answer: &mut [u64])
 
 // Runs a table on input couples, as `run::run` does, and puts the 22 numbers of the answer into a buffer of 64-bit numbers, so that none is
 // cut.
-#[unsafe(no_mangle)]
-pub extern "C" fn sandulipaw_run(
+pub fn sandulipaw_run(
     table: &[u32],
     input: &[u32],
     limit: u32,
@@ -68,13 +67,7 @@ fn put_three(a: Answer, answer: &mut [u64])
 
 // Judges a correspondence between two tables, as `judge::judge` does, and puts the three numbers of the answer into a buffer of 64-bit
 // numbers.
-#[unsafe(no_mangle)]
-pub extern "C" fn sandulipaw_judge(
-    first: &[u32],
-    second: &[u32],
-    list: &[u32],
-    answer: &mut [u64; 3],
-)
+pub fn sandulipaw_judge(first: &[u32], second: &[u32], list: &[u32], answer: &mut [u64; 3])
     ensures { answer.new ≡ three_numbers_of (Judging.answer_of (verdict first.now second.now list.now)) }
 {
     let a = judge::judge(first, second, list);
