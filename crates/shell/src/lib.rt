@@ -4,7 +4,7 @@
 // be any bytes.
 #![tactic(auto)]
 
-ghost use Rattle.std.specs.Prelude.{◌≡◌, ◌≤◌, IfOk, length};
+ghost use Rattle.std.specs.Prelude.{◌≡◌, ◌≤◌, IfOk, length, replicate};
 ghost use Rattle.shell.specs.Shell.{ReadWithin, TextWithin};
 
 use arrayvec::ArrayString;
@@ -30,14 +30,16 @@ pub enum Argument {
 
 // 4,096 zeros, which hold any path.
 pub fn buffer() -> [u8; 4096]
-    ensures { 4096 ≡ length result }
+    ensures size { 4096 ≡ length result }
+    ensures zeros { result ≡ replicate 4096 0 }
 {
     [0; 4096]
 }
 
 // 65,536 zeros, which hold any file that is read and any text that is printed.
 pub fn large_buffer() -> [u8; 65536]
-    ensures { 65536 ≡ length result }
+    ensures size { 65536 ≡ length result }
+    ensures zeros { result ≡ replicate 65536 0 }
 {
     [0; 65536]
 }
