@@ -3,9 +3,10 @@
 // expression. With no arguments each is worked 10 times.
 #![tactic(auto)]
 
+use expr::Unformed;
 use std::io::Print;
 use std::rt::Env;
-use sum::{Size, Sum, Term};
+use sum::{Sum, Term};
 
 // Ten products of two and a negation under sums and differences, over all sixteen variables: 63 words, 11 terms.
 const EXPRESSION: [u32; 63] = [
@@ -20,14 +21,12 @@ const MONOS: [u32; 8] = [0, 1, 2, 129, 130, 258, 16513, 33026];
 // What their coefficients are multiples of: a product of five symbols or more vanishes, and 15 terms are left.
 const SCALES: [u32; 8] = [1, 1, 1, 256, 256, 256, 16777216, 16777216];
 
+// Stays: it takes any bytes and wraps, which `files::number` does not.
 // The number that decimal digits write, modulo 2^32.
 fn number(text: &[u8]) -> u32 {
     let mut n = 0;
-    let mut i = 0;
-    while i < text.len() {
-        let d = text[i] % 48 % 10;
-        n = word::plus(word::times(n, 10), d as u32);
-        i += 1;
+    for digit in text {
+        n = word::plus(word::times(n, 10), u32::from(*digit % 48 % 10));
     }
     n
 }
@@ -43,14 +42,9 @@ fn argument(rt: &impl Env, i: usize) -> u32 {
 
 // A number that depends on each term of a sum.
 fn check(s: Sum) -> u32 {
-    let n = s.n;
-    let ts = s.terms;
-    let mut total = (n % 64) as u32;
-    let mut i = 0;
-    while i < 16 {
-        let t = ts[i];
+    let mut total = (s.n % 64) as u32;
+    for t in &s.terms {
         total = word::plus(word::plus(total, t.coef), t.mono);
-        i += 1;
     }
     total
 }
@@ -59,15 +53,13 @@ fn check(s: Sum) -> u32 {
 fn wide(k: u32) -> Sum {
     let zero = Term { coef: 0, mono: 0 };
     let mut ts = [zero; 16];
-    let mut i = 0;
     let mut mono = 1;
-    while i < 16 {
-        ts[i] = Term {
+    for t in &mut ts {
+        *t = Term {
             coef: word::times(mono, k),
-            mono: mono,
+            mono,
         };
         mono = word::plus(mono, 1);
-        i += 1;
     }
     Sum { n: 16, terms: ts }
 }
@@ -76,15 +68,13 @@ fn wide(k: u32) -> Sum {
 fn eight(c: u32, k: u32) -> Sum {
     let zero = Term { coef: 0, mono: 0 };
     let mut ts = [zero; 16];
-    let mut i = 0;
-    while i < 8 {
+    for i in 0..8 {
         let mono = MONOS[i];
         let scale = SCALES[i];
         ts[i] = Term {
             coef: word::times(scale, word::plus(mono, k)),
-            mono: mono,
+            mono,
         };
-        i += 1;
     }
     ts[0] = Term { coef: c, mono: 0 };
     Sum { n: 8, terms: ts }
@@ -94,13 +84,9 @@ fn added(rounds: u32) -> u32 {
     let mut a = wide(3);
     let b = wide(5);
     let mut total = 0;
-    let mut i = 0;
-    while i < rounds {
-        let r = a.add(b);
-        let s = r.sum;
-        a = s;
+    for i in 0..rounds {
+        a = a.add(b).unwrap_or_else(|_| Sum::empty());
         total = word::plus(total, check(a));
-        i += 1;
     }
     total
 }
@@ -108,16 +94,11 @@ fn added(rounds: u32) -> u32 {
 fn multiplied(rounds: u32) -> u32 {
     let b = eight(5, 5);
     let mut total = 0;
-    let mut i = 0;
-    while i < rounds {
-        let r = eight(i, 3).multiply(b);
-        let size = r.size;
-        let s = r.sum;
-        match size {
-            Size::Fits => total = word::plus(total, check(s)),
-            Size::TooLarge => total = word::plus(total, 1),
+    for i in 0..rounds {
+        match eight(i, 3).multiply(b) {
+            Ok(s) => total = word::plus(total, check(s)),
+            Err(_) => total = word::plus(total, 1),
         }
-        i += 1;
     }
     total
 }
@@ -126,22 +107,15 @@ fn multiplied(rounds: u32) -> u32 {
 const SYMBOLS: [u32; 16] = [0, 1, 2, 3, 4, 5, 6, 7, 8, 9, 10, 11, 12, 13, 14, 15];
 
 fn formed(rounds: u32) -> u32 {
-    let symbols = SYMBOLS;
-    let mut env = [0u32; 528];
-    env::symbols(&symbols, &mut env);
+    let env = env::Env::symbols(&SYMBOLS);
     let words = EXPRESSION;
     let mut total = 0;
-    let mut i = 0;
-    while i < rounds {
-        let r = expr::normal_sum(&words, &env);
-        let form = r.form;
-        let s = r.sum;
-        match form {
-            expr::Form::Malformed => {}
-            expr::Form::TooLarge => total = word::plus(total, 1),
-            expr::Form::Fits => total = word::plus(total, check(s)),
+    for i in 0..rounds {
+        match expr::normal_sum(&words, &env) {
+            Ok(normal) => total = word::plus(total, check(normal.sum)),
+            Err(Unformed::TooLarge { .. }) => total = word::plus(total, 1),
+            Err(Unformed::Malformed) => {}
         }
-        i += 1;
     }
     total
 }
@@ -150,15 +124,12 @@ fn valued(rounds: u32) -> u32 {
     let mut variables = [1, 2, 3, 4, 5, 6, 7, 8, 9, 10, 11, 12, 13, 14, 15, 16];
     let words = EXPRESSION;
     let mut total = 0;
-    let mut i = 0;
-    while i < rounds {
+    for i in 0..rounds {
         let v = (i % 16) as usize;
         variables[v] = total;
-        match expr::value(&words, &variables) {
-            expr::Valued::Malformed => {}
-            expr::Valued::Value { word: x, used: _ } => total = word::plus(total, x),
+        if let Some(valued) = expr::value(&words, &variables) {
+            total = word::plus(total, valued.word);
         }
-        i += 1;
     }
     total
 }

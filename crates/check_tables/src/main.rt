@@ -4,12 +4,12 @@
 // proved; that it is printed rests on std.
 #![tactic(auto)]
 
-ghost use Rattle.std.specs.Prelude.{◌≡◌, ◌+◌, ◌<◌, ◌≤◌, ◌^◌, length};
+ghost use Rattle.std.specs.Prelude.{◌≡◌, ◌+◌, ◌<◌, ◌≤◌, ◌^◌, IfOk, length};
 ghost use Rattle.files.specs.Files.{placed};
 ghost use Rattle.files.specs.Lines.{Front};
 ghost use Rattle.check_tables.specs.Text.{verdict_text};
 
-use shell::File;
+use shell::Said;
 
 // Judges three images, forms the line of the verdict in front of a text, and gives how many bytes that took.
 fn verdict_text(first: &[u32], second: &[u32], list: &[u32], text: &mut [u8]) -> usize
@@ -22,36 +22,32 @@ fn verdict_text(first: &[u32], second: &[u32], list: &[u32], text: &mut [u8]) ->
     files::answer_line(answer.number, answer.image, answer.record, 0, text)
 }
 
-// Judges three images and prints the verdict: whether it could be written.
-fn judge_words(rt: &HostRuntime, first: &[u32], second: &[u32], list: &[u32]) -> bool {
-    let mut text = shell::buffer();
+// Judges three images and prints the verdict.
+fn judge_words(rt: &HostRuntime, first: &[u32], second: &[u32], list: &[u32]) -> Result<(), Said> {
+    let mut text = shell::zeros::<4096>();
     let n = verdict_text(first, second, list, &mut text);
     shell::print(rt, &text[..n])
 }
 
-// Reads the three files that stand from an argument on, judges them and prints the verdict: whether all that could be done.
-fn judge_files(rt: &HostRuntime, i: usize) -> bool
+// Reads the file that an argument names, takes its words into the front of a buffer, and gives how many are lent.
+fn read_image(rt: &HostRuntime, i: usize, words: &mut [u32]) -> Result<usize, Said>
+    ensures { IfOk result (λ n. n ≤ length words.new) }
+{
+    let mut bytes = shell::zeros::<65536>();
+    let n = shell::read_argument(rt, i, &mut bytes)?;
+    Ok(files::image(&bytes[..n], words))
+}
+
+// Reads the three files that stand from an argument on, judges them and prints the verdict.
+fn judge_files(rt: &HostRuntime, i: usize) -> Result<(), Said>
     requires { i + 2 < 2 ^ 64 }
 {
-    let mut bytes = shell::large_buffer();
     let mut first = [0u32; 4298];
     let mut second = [0u32; 4298];
     let mut list = [0u32; 5512];
-    let one = shell::read_argument(rt, i, &mut bytes);
-    let File::Bytes(n) = one else {
-        return false;
-    };
-    let a = files::image(&bytes[..n], &mut first);
-    let other = shell::read_argument(rt, i + 1, &mut bytes);
-    let File::Bytes(m) = other else {
-        return false;
-    };
-    let b = files::image(&bytes[..m], &mut second);
-    let third = shell::read_argument(rt, i + 2, &mut bytes);
-    let File::Bytes(l) = third else {
-        return false;
-    };
-    let c = files::image(&bytes[..l], &mut list);
+    let a = read_image(rt, i, &mut first)?;
+    let b = read_image(rt, i + 1, &mut second)?;
+    let c = read_image(rt, i + 2, &mut list)?;
     judge_words(rt, &first[..a], &second[..b], &list[..c])
 }
 
@@ -71,11 +67,5 @@ fn main(rt: HostRuntime) {
         );
         return;
     }
-    let mut i = 1;
-    while i < count {
-        if !judge_files(&rt, i) {
-            return;
-        }
-        i += 3;
-    }
+    let _ = (1..count).step_by(3).try_for_each(|i| judge_files(&rt, i));
 }

@@ -4,7 +4,7 @@ use mathlib.Core.Path.{◌≡◌, refl, sym, ◌∙◌, ap}
 use mathlib.Core.Logic.{◌↔◌}
 use mathlib.Core.Bool.{Bool, true, false, cond, ◌&&◌, beq}
 use mathlib.Core.List.{List, [], ◌∷◌, ◌++◌, map, tail, append_assoc, map-append}
-use mathlib.Core.Option.{Option, none, some}
+use Rattle.std.specs.Prelude.{Option, Some, None}
 use native.Mathlib.Omega.{arith}
 use Rattle.model.specs.Table.{State, stop, step, test, Table}
 use Rattle.model.specs.Path.{is_none, true_side, behind, all_false, covers_of, covers, rule11}
@@ -25,12 +25,12 @@ Walk = ℕ → List Bool → Paths → Option Paths
 
 -- A path that begins with some choices is those and the rest.
 
-after_front : (led q : List Bool) → after led (led ++ q) ≡ some q
+after_front : (led q : List Bool) → after led (led ++ q) ≡ Some q
 unfolding after
 after_front [] q = refl
 after_front (b ∷ led) q = rw (beq_same b) (after_front led q)
 
-after_says : (led p : List Bool) {q : List Bool} → after led p ≡ some q → p ≡ led ++ q
+after_says : (led p : List Bool) {q : List Bool} → after led p ≡ Some q → p ≡ led ++ q
 unfolding after
 after_says [] p h = cc
 after_says (b ∷ led) [] h = absurd (let z : ◌≡◌ {A = ℕ} 0 1 = cc in omega arith)
@@ -38,8 +38,8 @@ after_says (b ∷ led) (c ∷ p) {q} h = by (beq b c) refl (after_says led p) h
   where
     by : (a : Bool)
         → beq b c ≡ a
-        → (after led p ≡ some q → p ≡ led ++ q)
-        → cond a (after led p) none ≡ some q
+        → (after led p ≡ Some q → p ≡ led ++ q)
+        → cond a (after led p) None ≡ Some q
         → (c ∷ p) ≡ (b ∷ led) ++ q
     by true e later h =
         let p' : p ≡ led ++ q = later h in
@@ -86,11 +86,11 @@ none_is (a ∷ l) h = clash h refl
 
 -- The walk on consumes what passes the test on.
 abbrev Consumes : (ℕ → Paths → Bool) → Walk → Type 0
-Consumes on walk = (s : ℕ) (led : List Bool) (qs rest : Paths) → on s qs ≡ true → walk s led (from led qs ++ rest) ≡ some rest
+Consumes on walk = (s : ℕ) (led : List Bool) (qs rest : Paths) → on s qs ≡ true → walk s led (from led qs ++ rest) ≡ Some rest
 
 consumes_below : (x : State) (on : ℕ → Paths → Bool) (walk : Walk) → Consumes on walk → (led : List Bool) (qs rest : Paths)
     → covers_of x on qs ≡ true
-    → visit_of x walk led (from led qs ++ rest) ≡ some rest
+    → visit_of x walk led (from led qs ++ rest) ≡ Some rest
 unfolding covers_of visit_of onward
 consumes_below stop on walk c led qs rest h = clash h refl
 consumes_below (step e) on walk c led qs rest h =
@@ -117,7 +117,7 @@ goes_there led b q ps = rw (after_front led (b ∷ q))
 
 pub covers_visit : (t : Table) (n s : ℕ) (led : List Bool) (qs rest : List (List Bool))
     → covers t n s qs ≡ true
-    → visit t n s led (map (λ q. led ++ q) qs ++ rest) ≡ some rest
+    → visit t n s led (map (λ q. led ++ q) qs ++ rest) ≡ Some rest
 unfolding covers visit visit_by
 covers_visit t zero s led [] rest h = clash h refl
 covers_visit t zero s led ([] ∷ qs) rest h = rw (none_is qs h, ends_there led rest)
@@ -136,7 +136,7 @@ pub record Consumed (on : ℕ → List (List Bool) → Bool) (s : ℕ) (led : Li
 
 -- A walk that goes on says so of each node.
 abbrev Says : (ℕ → Paths → Bool) → Walk → Type 0
-Says on walk = (s : ℕ) (led : List Bool) (ps rest : Paths) → walk s led ps ≡ some rest → Consumed on s led ps rest
+Says on walk = (s : ℕ) (led : List Bool) (ps rest : Paths) → walk s led ps ≡ Some rest → Consumed on s led ps rest
 
 -- Paths that go on by one choice.
 
@@ -172,11 +172,11 @@ sides_behind (q ∷ trues) falses = sides_behind trues falses
 
 -- What the true side left over, and that the false side goes on with it.
 onward_says : (first : Option Paths) (on : Paths → Option Paths) {rest : Paths}
-    → onward first on ≡ some rest
-    → (mid : Paths) × (first ≡ some mid) × (on mid ≡ some rest)
+    → onward first on ≡ Some rest
+    → (mid : Paths) × (first ≡ Some mid) × (on mid ≡ Some rest)
 unfolding onward
-onward_says none on h = absurd (let z : ◌≡◌ {A = ℕ} 0 1 = cc in omega arith)
-onward_says (some mid) on h = (mid, refl, h)
+onward_says None on h = absurd (let z : ◌≡◌ {A = ℕ} 0 1 = cc in omega arith)
+onward_says (Some mid) on h = (mid, refl, h)
 
 -- The paths of a test's two sides, each consumed in its turn.
 tested : (on : ℕ → Paths → Bool) (s u : ℕ) (led : List Bool) (ps mid rest : Paths)
@@ -203,7 +203,7 @@ tested on s u led ps mid rest v w =
 
 -- Below a state the walk says so too.
 says_below : (x : State) (on : ℕ → Paths → Bool) (walk : Walk) → Says on walk → (led : List Bool) (ps rest : Paths)
-    → visit_of x walk led ps ≡ some rest
+    → visit_of x walk led ps ≡ Some rest
     → Consumed (λ s. covers_of x on) 0 led ps rest
 unfolding covers_of visit_of
 says_below stop on walk c led ps rest h = absurd (let z : ◌≡◌ {A = ℕ} 0 1 = cc in omega arith)
@@ -256,18 +256,18 @@ ends_says led [] rest h = absurd (let z : ◌≡◌ {A = ℕ} 0 1 = cc in omega 
 ends_says led (p ∷ ps) rest h = by (after led p) refl h
   where
     by : (q : Option (List Bool)) → after led p ≡ q → stands_by q ps ≡ ends rest → (p ∷ ps) ≡ (led ++ []) ∷ rest
-    by none e h = absurd (let z : ◌≡◌ {A = ℕ} 0 1 = cc in omega arith)
-    by (some []) e h =
+    by None e h = absurd (let z : ◌≡◌ {A = ℕ} 0 1 = cc in omega arith)
+    by (Some []) e h =
         let front : p ≡ led ++ [] = after_says led p e in
         let same : ps ≡ rest = cc in
         λ i. front i ∷ same i
-    by (some (b ∷ q)) e h = absurd (let z : ◌≡◌ {A = ℕ} 0 1 = cc in omega arith)
+    by (Some (b ∷ q)) e h = absurd (let z : ◌≡◌ {A = ℕ} 0 1 = cc in omega arith)
 
 -- What a walk consumed at a node: the path that ends there, or what the walk below consumed.
 visit_by_says : (t : Table) (n s : ℕ) (led : List Bool) (ps rest : Paths) (x : Standing) (below : Option Paths)
     → standing led ps ≡ x
-    → visit_by x below ≡ some rest
-    → (below ≡ some rest → Consumed (covers t n) s led ps rest)
+    → visit_by x below ≡ Some rest
+    → (below ≡ Some rest → Consumed (covers t n) s led ps rest)
     → Consumed (covers t n) s led ps rest
 unfolding visit_by
 visit_by_says t n s led ps rest away below e h k = absurd (let z : ◌≡◌ {A = ℕ} 0 1 = cc in omega arith)
@@ -281,11 +281,11 @@ visit_by_says t n s led ps rest (ends left) below e h k =
 visit_by_says t n s led ps rest goes_on below e h k = k h
 
 pub visit_covers : (t : Table) (n s : ℕ) (led : List Bool) (ps rest : List (List Bool))
-    → visit t n s led ps ≡ some rest
+    → visit t n s led ps ≡ Some rest
     → Consumed (covers t n) s led ps rest
 unfolding visit
 visit_covers t zero s led ps rest h =
-    visit_by_says t zero s led ps rest (standing led ps) none refl h
+    visit_by_says t zero s led ps rest (standing led ps) None refl h
     (λ z. absurd (let z : ◌≡◌ {A = ℕ} 0 1 = cc in omega arith))
 visit_covers t (suc n) s led ps rest h =
     visit_by_says t (suc n) s led ps rest (standing led ps) (visit_of (t s) (visit t n) led ps) refl h
@@ -298,7 +298,7 @@ from_none [] = refl
 from_none (q ∷ qs) = ap (λ l. q ∷ l) (from_none qs)
 
 -- The walk from a state consumes exactly the paths that pass the test.
-pub visit_says : (t : Table) (n s : ℕ) (ps : List (List Bool)) → (visit t n s [] ps ≡ some []) ↔ (covers t n s ps ≡ true)
+pub visit_says : (t : Table) (n s : ℕ) (ps : List (List Bool)) → (visit t n s [] ps ≡ Some []) ↔ (covers t n s ps ≡ true)
 visit_says t n s ps = (
   λ h. let v = visit_covers t n s [] ps [] h in
       ap (covers t n s) (v.whole ∙ from_none v.paths) ∙ v.passed,
@@ -306,11 +306,11 @@ visit_says t n s ps = (
 )
 
 -- All paths are consumed where none is left over.
-consumed_says : (v : Option Paths) → (consumed v ≡ true → v ≡ some []) × (v ≡ some [] → consumed v ≡ true)
+consumed_says : (v : Option Paths) → (consumed v ≡ true → v ≡ Some []) × (v ≡ Some [] → consumed v ≡ true)
 unfolding consumed is_none
-consumed_says none = (λ h. clash h refl, λ h. absurd (let z : ◌≡◌ {A = ℕ} 0 1 = cc in omega arith))
-consumed_says (some []) = (λ h. refl, λ h. refl)
-consumed_says (some (p ∷ ps)) = (λ h. clash h refl, λ h. absurd (let z : ◌≡◌ {A = ℕ} 0 1 = cc in omega arith))
+consumed_says None = (λ h. clash h refl, λ h. absurd (let z : ◌≡◌ {A = ℕ} 0 1 = cc in omega arith))
+consumed_says (Some []) = (λ h. refl, λ h. refl)
+consumed_says (Some (p ∷ ps)) = (λ h. clash h refl, λ h. absurd (let z : ◌≡◌ {A = ℕ} 0 1 = cc in omega arith))
 
 -- The test of rule 11 is whether the walk consumes all paths.
 pub covers_consumed : (t : Table) (n s : ℕ) (ps : List (List Bool)) → covers t n s ps ≡ consumed (visit t n s [] ps)

@@ -1,20 +1,19 @@
 -- Rule 11 by a walk of the tree of choices that consumes the pair's paths in their order. A node of the tree is a state and the
 -- choices that led to it. 01: "where two first differ, the true one is listed earlier; and every walk of 32 edges, or shorter into
 -- a stop, begins with exactly one of them, compared by choices". Assumes nothing.
-use Rattle.std.specs.Prelude.{ℕ, zero, suc, Bool, true, false, cond, List, [], ◌∷◌, ◌++◌}
+use Rattle.std.specs.Prelude.{ℕ, zero, suc, Bool, true, false, cond, List, [], ◌∷◌, ◌++◌, Option, Some, None}
 use Rattle.std.specs.Bool.{beq}
-use Rattle.std.proofs.Math.Option.{Option, none, some}
 use Rattle.model.specs.Table.{State, stop, step, test, Table}
 use Rattle.model.specs.Run.{is_stop}
 use Rattle.model.specs.Path.{is_none}
 
 -- What is left of a path behind the choices with which it begins; nothing where it begins otherwise.
 unfoldable pub after : List Bool → List Bool → Option (List Bool)
-after [] path = some path
-after (b ∷ led) [] = none
+after [] path = Some path
+after (b ∷ led) [] = None
 after (b ∷ led) (c ∷ path) =
     let rest = after led path in
-    cond (beq b c) rest none
+    cond (beq b c) rest None
 
 -- What the first of the paths does at a node: it does not come there, it ends there with the paths behind it left over, or it goes on.
 pub data Standing : Type 0 where
@@ -24,9 +23,9 @@ pub data Standing : Type 0 where
 
 -- The same by what is left of that path there.
 unfoldable pub stands_by : Option (List Bool) → List (List Bool) → Standing
-stands_by none ps = away
-stands_by (some []) ps = ends ps
-stands_by (some (b ∷ rest)) ps = goes_on
+stands_by None ps = away
+stands_by (Some []) ps = ends ps
+stands_by (Some (b ∷ rest)) ps = goes_on
 
 -- What the first of the paths does at the node to which the choices led.
 unfoldable pub standing : List Bool → List (List Bool) → Standing
@@ -35,31 +34,31 @@ standing led (p ∷ ps) = stands_by (after led p) ps
 
 -- Where the first path ends at a node it is consumed; where it does not come there the walk fails; else the walk goes below.
 unfoldable pub visit_by : Standing → Option (List (List Bool)) → Option (List (List Bool))
-visit_by away below = none
-visit_by (ends ps) below = some ps
+visit_by away below = None
+visit_by (ends ps) below = Some ps
 visit_by goes_on below = below
 
 -- The false side with the paths that the true side left over.
 unfoldable pub onward : Option (List (List Bool)) → (List (List Bool) → Option (List (List Bool))) → Option (List (List Bool))
-onward none on = none
-onward (some ps) on = on ps
+onward None on = None
+onward (Some ps) on = on ps
 
 -- The walk below a state: none below a stop, by false below a step, and below a test by true and then by false.
 unfoldable pub visit_of : State → (ℕ → List Bool → List (List Bool) → Option (List (List Bool))) → List Bool → List (List Bool) → Option (List (List Bool))
-visit_of stop on led ps = none
+visit_of stop on led ps = None
 visit_of (step e) on led ps = on e.target (led ++ (false ∷ [])) ps
 visit_of (test k l r e f) on led ps =
     onward (on e.target (led ++ (true ∷ [])) ps) (on f.target (led ++ (false ∷ [])))
 
 -- The walk from state s with n edges left, to which the choices led: the paths left over, or nothing where it fails.
 unfoldable pub visit : Table → ℕ → ℕ → List Bool → List (List Bool) → Option (List (List Bool))
-visit t zero s led ps = visit_by (standing led ps) none
+visit t zero s led ps = visit_by (standing led ps) None
 visit t (suc n) s led ps = visit_by (standing led ps) (visit_of (t s) (visit t n) led ps)
 
 -- Whether a walk has consumed all paths.
 unfoldable pub consumed : Option (List (List Bool)) → Bool
-consumed none = false
-consumed (some ps) = is_none ps
+consumed None = false
+consumed (Some ps) = is_none ps
 
 -- Rule 11 by the walk; "a pair of two stops must have no path, and is then covered".
 unfoldable pub covered_by : Table → ℕ → ℕ → List (List Bool) → Bool

@@ -2,6 +2,7 @@
 // that it is too large; and the tests. What it prints is held to the file stdout.
 #![tactic(auto)]
 
+use expr::Unformed;
 use std::io::Print;
 use sum::Sum;
 use word::Kind;
@@ -35,37 +36,26 @@ fn say_term(rt: &impl Print, coef: u32, mono: u32) {
 }
 
 fn say_sum(rt: &impl Print, s: Sum) {
-    let n = s.n;
-    let terms = s.terms;
-    let mut i = 0;
-    while i < 16 {
-        if i < n {
-            let t = terms[i];
-            say_term(rt, t.coef, t.mono);
-        }
-        i += 1;
+    for t in s.terms() {
+        say_term(rt, t.coef, t.mono);
     }
 }
 
+// Stays: data of this program, as it is of `arith`.
 // The symbols of the sixteen variables.
 const SYMBOLS: [u32; 16] = [0, 1, 2, 3, 4, 5, 6, 7, 8, 9, 10, 11, 12, 13, 14, 15];
 
 // The normal sum of an expression.
 fn normal(rt: &impl Print, name: &[u8], words: &[u32]) {
-    let symbols = SYMBOLS;
-    let mut env = [0u32; 528];
-    env::symbols(&symbols, &mut env);
-    let r = expr::normal_sum(words, &env);
-    let form = r.form;
-    let s = r.sum;
+    let env = env::Env::symbols(&SYMBOLS);
     say(rt, name);
-    match form {
-        expr::Form::Malformed => say(rt, b" malformed\n"),
-        expr::Form::TooLarge => say(rt, b" too large\n"),
-        expr::Form::Fits => {
+    match expr::normal_sum(words, &env) {
+        Ok(normal) => {
             say(rt, b" fits\n");
-            say_sum(rt, s);
+            say_sum(rt, normal.sum);
         }
+        Err(Unformed::TooLarge { .. }) => say(rt, b" too large\n"),
+        Err(Unformed::Malformed) => say(rt, b" malformed\n"),
     }
 }
 

@@ -10,6 +10,7 @@ ghost use Rattle.run.specs.Answers.{answer_of};
 ghost use Rattle.judge.specs.Judging as Judging;
 ghost use Rattle.exports.specs.Numbers.{numbers_of, three_numbers_of};
 
+// Stays: the C interface; these are the two symbols that are handed out.
 // Runs a table on input couples, and puts the 22 numbers of the answer into a buffer of 64-bit numbers.
 #[unsafe(no_mangle)]
 pub extern "C" fn sandulipaw_run(

@@ -4,10 +4,10 @@ use mathlib.Core.Path.{◌≡◌, sym, ◌∙◌, ap}
 use mathlib.Core.List.{[], ◌∷◌}
 use native.Mathlib.Omega.{arith}
 use Rattle.model.specs.Answer.{Fault, ◌then◌, first_of, up_to}
+use Rattle.std.specs.Prelude.{Ok, Err}
 use Rattle.fault.specs.Fault.{checked_of}
-use Rattle.fault.specs.declared.Checked.{Checked}
-use Rattle.fault.specs.declared.Checked.TheVariants.{Sound, Broken}
-use Rattle.fault.proofs.Rules.{first_broken, first_sound}
+use Rattle.fault.specs.declared.Fault as declared
+use Rattle.fault.proofs.Rules.{Checked, first_broken, first_sound}
 
 -- The numbers from i on: the first, and the others.
 
@@ -36,15 +36,15 @@ turn : (f : ℕ → Fault) (n i : ℕ) → i < n → first_of f (up_to i (n - i)
 unfolding first_of
 turn f n i h = ap (first_of f) (up_to_cons i (n - i) (n - (i + 1)) (omega arith))
 
-pub along_fine : (f : ℕ → Fault) (n i : ℕ) {r : Checked} → Along f n i → i < n → r ≡ checked_of (f i) → r ≡ Sound → Along f n (i + 1)
+pub along_fine : (f : ℕ → Fault) (n i : ℕ) {r : Checked} → Along f n i → i < n → r ≡ checked_of (f i) → r ≡ Ok tt → Along f n (i + 1)
 along_fine f n i v h e k =
     record { within = omega arith; rest = sym (first_sound (f i) _ e k) ∙ sym (turn f n i h) ∙ v.rest }
 
-pub along_broken : (f : ℕ → Fault) (n i : ℕ) {r : Checked} {m j : ℕ} → Along f n i → i < n → r ≡ checked_of (f i) → r ≡ Broken m j
-    → Broken m j ≡ checked_of (first_of f (up_to 0 n))
-along_broken f n i v h e k = first_broken (f i) (first_of f (up_to (i + 1) (n - (i + 1)))) e k ∙ ap checked_of (sym (turn f n i h) ∙ v.rest)
+pub along_broken : (f : ℕ → Fault) (n i : ℕ) {r : Checked} {e : declared.Fault} → Along f n i → i < n → r ≡ checked_of (f i) → r ≡ Err e
+    → Err e ≡ checked_of (first_of f (up_to 0 n))
+along_broken f n i v h q k = first_broken (f i) (first_of f (up_to (i + 1) (n - (i + 1)))) q k ∙ ap checked_of (sym (turn f n i h) ∙ v.rest)
 
-pub along_end : (f : ℕ → Fault) (n i : ℕ) → Along f n i → n ≤ i → Sound ≡ checked_of (first_of f (up_to 0 n))
+pub along_end : (f : ℕ → Fault) (n i : ℕ) → Along f n i → n ≤ i → Ok tt ≡ checked_of (first_of f (up_to 0 n))
 unfolding first_of checked_of
 along_end f n i v h =
     let b : i ≤ n = v.within in

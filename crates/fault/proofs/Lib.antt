@@ -1,3 +1,4 @@
 pub mod Rules
 pub mod Along
 pub mod Search
+pub mod Unique

@@ -1,16 +1,20 @@
 -- Rules of a record, decided in code: where all facts hold the rules are kept, where they cannot all hold they are not; and what then
--- is answered; and what holds of a word that was read holds of the image's. Assumes nothing.
+-- is answered. Assumes nothing.
 use Prim.Native.Nat.{ℕ, ◌≤◌, ◌<◌}
 use mathlib.Core.Path.{◌≡◌, refl, sym, ◌∙◌, ap}
 use mathlib.Core.Bool.{Bool, true, false}
 use mathlib.Core.List.{List, [], ◌∷◌}
 use native.Mathlib.Omega.{arith}
 use borrow.Author.Tests.{le-leb, lt-ltb, eq-eqb}
-use Rattle.model.specs.Answer.{Reason, Fault, sound, broken, number_of, ◌then◌, Rule, le, lt, is, so, kept, all_kept, check}
+use Rattle.model.specs.Answer.{Reason, Fault, sound, broken, ◌then◌, Rule, le, lt, is, so, kept, all_kept, check}
 use Rattle.model.proofs.Basics.{Fact, Facts, facts, and_both}
-use Rattle.fault.specs.Fault.{checked_of}
-use Rattle.fault.specs.declared.Checked.{Checked}
-use Rattle.fault.specs.declared.Checked.TheVariants.{Sound, Broken}
+use Rattle.std.specs.Prelude.{Result, Ok, Err}
+use Rattle.fault.specs.Fault.{fault_at, checked_of}
+use Rattle.fault.specs.declared.Fault as declared
+
+-- The answer of a check.
+abbrev pub Checked : Type 0
+Checked = Result (Unit {0}) declared.Fault
 
 keep : (r : Rule) → Fact r → kept r ≡ true
 unfolding kept
@@ -53,7 +57,7 @@ unfolding check
 check_broken n i rs e h = let q : all_kept rs ≡ false = cc in rw q
 
 pub refused : {b : Bool} (n : Reason) (i : ℕ) (rs : List Rule) (g : Fault) → b ≡ all_kept rs → b ≡ false
-    → Broken (number_of n) i ≡ checked_of (check n i rs then g)
+    → Err (fault_at n i) ≡ checked_of (check n i rs then g)
 unfolding ◌then◌ checked_of
 refused n i rs g e h = rw (check_broken n i rs e h)
 
@@ -63,12 +67,12 @@ passed n i rs g e h = rw (check_kept n i rs e h)
 
 -- The first of two findings, as the code answers it.
 
-pub first_broken : {r : Checked} {n i : ℕ} (f g : Fault) → r ≡ checked_of f → r ≡ Broken n i → Broken n i ≡ checked_of (f then g)
+pub first_broken : {r : Checked} {e : declared.Fault} (f g : Fault) → r ≡ checked_of f → r ≡ Err e → Err e ≡ checked_of (f then g)
 unfolding checked_of ◌then◌
 first_broken sound g e k = absurd (let z : ◌≡◌ {A = ℕ} 0 1 = cc in omega arith)
 first_broken (broken m j) g e k = sym k ∙ e
 
-pub first_sound : {r : Checked} (f g : Fault) → r ≡ checked_of f → r ≡ Sound → (f then g) ≡ g
+pub first_sound : {r : Checked} (f g : Fault) → r ≡ checked_of f → r ≡ Ok tt → (f then g) ≡ g
 unfolding checked_of ◌then◌
 first_sound sound g e k = refl
 first_sound (broken m j) g e k = absurd (let z : ◌≡◌ {A = ℕ} 0 1 = cc in omega arith)
@@ -76,20 +80,20 @@ first_sound (broken m j) g e k = absurd (let z : ◌≡◌ {A = ℕ} 0 1 = cc in
 -- The first of three findings: the first breaks, the second does behind a sound first, or the third is the answer.
 
 module _ (f g h : Fault) {t : Fault} (all : t ≡ (f then g then h)) {c : Checked} (e : c ≡ checked_of f) where
-  pub first_of_three : {n i : ℕ} → c ≡ Broken n i → Broken n i ≡ checked_of t
+  pub first_of_three : {b : declared.Fault} → c ≡ Err b → Err b ≡ checked_of t
   first_of_three q = first_broken f (g then h) e q ∙ sym (ap checked_of all)
 
-  module _ (q : c ≡ Sound) {d : Checked} (k : d ≡ checked_of g) where
+  module _ (q : c ≡ Ok tt) {d : Checked} (k : d ≡ checked_of g) where
     behind_first : t ≡ (g then h)
     behind_first = all ∙ first_sound f (g then h) e q
 
-    pub second_of_three : {n i : ℕ} → d ≡ Broken n i → Broken n i ≡ checked_of t
+    pub second_of_three : {b : declared.Fault} → d ≡ Err b → Err b ≡ checked_of t
     second_of_three u = first_broken g h k u ∙ sym (ap checked_of behind_first)
 
-    pub third_of_three : {r : Checked} → d ≡ Sound → r ≡ checked_of h → r ≡ checked_of t
+    pub third_of_three : {r : Checked} → d ≡ Ok tt → r ≡ checked_of h → r ≡ checked_of t
     third_of_three u v = v ∙ sym (ap checked_of (behind_first ∙ first_sound g h k u))
 
-pub is_sound : {r : Checked} (f : Fault) → r ≡ checked_of f → r ≡ Sound → f ≡ sound
+pub is_sound : {r : Checked} (f : Fault) → r ≡ checked_of f → r ≡ Ok tt → f ≡ sound
 unfolding checked_of
 is_sound sound e k = refl
 is_sound (broken m j) e k = absurd (let z : ◌≡◌ {A = ℕ} 0 1 = cc in omega arith)

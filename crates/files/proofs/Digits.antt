@@ -1,114 +1,96 @@
--- Laws of decimal texts: what a text that was read in part still gives, by its next byte, by a number that is too large already, and at
--- its end. Assumes nothing.
-use Prim.Native.Nat.{ℕ, suc, ◌+◌, ◌-◌, ◌*◌, ◌≤◌, ◌<◌}
-use mathlib.Core.Path.{◌≡◌, refl, sym, ◌∙◌}
-use mathlib.Core.Bool.{Bool, true, false, cond}
+-- Laws of decimal texts: which texts write a word, and what std's `parse` gives of one with no sign. Assumes nothing.
+use Prim.Native.Nat.{ℕ, ◌^◌, ◌≤◌, ◌<◌}
+use mathlib.Core.Path.{◌≡◌, refl}
+use mathlib.Core.Bool.{Bool, true, false}
 use mathlib.Core.List.{List, [], ◌∷◌}
+use mathlib.Core.Logic.{◌≢◌}
 use native.Mathlib.Omega.{arith}
-use native.Mathlib.Numerals.{add-one}
-use lib.Dec.{leb}
-use lib.ListN.{length, get_or, drop, drop_of_length-le}
-use lib.Seq.{drop-cons}
-use borrow.Author.Tests.{le-leb, lt-leb, eq-eqb, ne_eqb}
+use lib.Dec.{leb, eqb}
+use lib.ListN.{length, get_or}
+use borrow.Author.Rules.{rules}
+use borrow.Author.Tests.{leb-true, le-leb, eqb-true, eqb-false, ne_eqb}
+use Rattle.std.specs.Prelude.{Some, None, Result, Ok, Err, MatchResult, IsUtf8, nat_eq}
+use Rattle.std.specs.Borrow.{Bor}
+use Rattle.std.specs.List.{slice_get}
+use Rattle.std.specs.Option.{option_eq}
+use Rattle.std.specs.Result.{OkIff, result_ok}
+use Rattle.std.specs.Str.Parse.{ParsesUnsigned}
+use Rattle.std.proofs.lemmas.Fmt.{IsAscii-from_digits}
+use Rattle.std.proofs.lemmas.Str.{IsUtf8-from_ascii}
+use Rattle.std.proofs.lemmas.Str.Parse.{IsNumeralModel, numerals_by_fold, not_in_digits, parse_plain}
 use Rattle.files.specs.Files.{digits, value_on, value_of, number_of}
-use Rattle.files.specs.declared.Decimal.{Decimal}
-use Rattle.files.specs.declared.Decimal.TheVariants.{Word, NotOne}
 
--- What a text gives whose digits so far write v and of which l is left.
-unfoldable pub number_on : ℕ → List ℕ → Decimal
-number_on v l = cond (digits l) (cond (leb (value_on v l) 4294967295) (Word (value_on v l)) NotOne) NotOne
+-- The texts of digits and their value are those of std.
+own : IsNumeralModel (λ l. digits l ≡ true) (value_on 0)
+unfolding digits value_on
+own = numerals_by_fold _ (search rules) value_on (search rules)
 
--- An empty text is no number.
-pub number_empty : (l : List ℕ) → length l < 1 → NotOne ≡ number_of l
-unfolding number_of
-number_empty l h =
-    let e : length l ≡ 0 = omega arith in
-    rw (eq-eqb (length l) 0 e) refl
+-- A text writes a word where it has digits alone, at least one, and they write at most 4294967295.
+abbrev pub Writes : List ℕ → Type 0
+Writes l = (digits l ≡ true) × (0 < length l) × (value_on 0 l < 2 ^ 32)
 
--- Any other text gives what is left of it when nothing was read.
-pub number_start : (l : List ℕ) → 1 ≤ length l → number_on 0 l ≡ number_of l
-unfolding number_of number_on value_of
-number_start l h =
-    let e : length l ≡ 0 → ⊥ = λ z. omega arith in
-    rw (ne_eqb (length l) 0 e) refl
+-- The word that a text writes.
+pub number_some : (l : List ℕ) → Writes l → Some (value_on 0 l) ≡ number_of l
+unfolding number_of value_of
+number_some l h =
+    let e : length l ≡ 0 → ⊥ = λ z. omega (arith, h.1) in
+    rw (ne_eqb (length l) 0 e, h.0, le-leb (value_on 0 l) 4294967295 (omega (arith, h.2))) refl
 
--- A byte below the digits.
-pub number_below : (v b : ℕ) (l : List ℕ) → b < 48 → number_on v (b ∷ l) ≡ NotOne
-unfolding number_on digits
-number_below v b l h = rw (lt-leb 48 b h) refl
+-- A text that writes none.
 
--- A byte above the digits.
-pub number_above : (v b : ℕ) (l : List ℕ) → 57 < b → number_on v (b ∷ l) ≡ NotOne
-unfolding number_on digits
-number_above v b l h =
-    let k : leb 48 b ≡ true = le-leb 48 b (omega arith) in
-    rw (k, lt-leb b 57 h) refl
+none_by : (l : List ℕ) (a b c : Bool)
+    → eqb (length l) 0 ≡ a
+    → digits l ≡ b
+    → leb (value_on 0 l) 4294967295 ≡ c
+    → ¬ (Writes l)
+    → None ≡ number_of l
+unfolding number_of value_of
+none_by l true b c p q r h = rw p refl
+none_by l false false c p q r h = rw (p, q) refl
+none_by l false true false p q r h = rw (p, q, r) refl
+none_by l false true true p q r h =
+    let e : length l ≡ 0 → ⊥ = eqb-false (length l) 0 p in
+    let k : value_on 0 l ≤ 4294967295 = leb-true (value_on 0 l) 4294967295 r in
+    absurd (h (q, omega arith, omega arith))
 
--- A digit.
-pub number_digit : (v b : ℕ) (l : List ℕ) → 48 ≤ b → b ≤ 57 → number_on v (b ∷ l) ≡ number_on (v * 10 + (b - 48)) l
-unfolding number_on digits value_on
-number_digit v b l h k = rw (le-leb 48 b h, le-leb b 57 k) refl
+pub number_none : (l : List ℕ) → ¬ (Writes l) → None ≡ number_of l
+number_none l h = none_by l _ _ _ refl refl refl h
 
--- More digits write no smaller number.
-pub value_grows : (v : ℕ) (l : List ℕ) → v ≤ value_on v l
-unfolding value_on
-value_grows v [] = omega arith
-value_grows v (b ∷ l) =
-    let h : v * 10 + (b - 48) ≤ value_on (v * 10 + (b - 48)) l = value_grows (v * 10 + (b - 48)) l in
-    omega arith
+-- What a comparison with the first byte tells.
 
--- A choice between one thing and itself.
-either : {A : Type 0} (b : Bool) {x : A} → cond b x x ≡ x
-either true = refl
-either false = refl
+pub first_is : (l : List ℕ) (x : ℕ) → option_eq nat_eq (slice_get l 0) (Some x) ≡ true → (0 < length l) × (get_or l 0 0 ≡ x)
+first_is [] x h = absurd cc
+first_is (b ∷ l) x h = (omega arith, eqb-true b x h)
 
--- A number that is too large already.
-pub number_large : (v : ℕ) (l : List ℕ) → 4294967295 < v → number_on v l ≡ NotOne
-unfolding number_on
-number_large v l h =
-    let k : 4294967295 < value_on v l = omega (arith, value_grows v l) in
-    rw (lt-leb (value_on v l) 4294967295 k) (either (digits l))
+pub first_is_not : (l : List ℕ) (x : ℕ) → x ≢ 0 → option_eq nat_eq (slice_get l 0) (Some x) ≡ false → get_or l 0 0 ≢ x
+first_is_not [] x k h = λ z. omega arith
+first_is_not (b ∷ l) x k h = eqb-false b x h
 
--- A text that was read whole.
-pub number_end : (v : ℕ) → v ≤ 4294967295 → Word v ≡ number_on v []
-unfolding number_on digits value_on
-number_end v h = rw (le-leb v 4294967295 h) refl
+-- A text with a plus in front writes none.
+pub number_plus : (l : List ℕ) → (0 < length l) × (get_or l 0 0 ≡ 43) → None ≡ number_of l
+number_plus l h = number_none l (λ w. not_in_digits own l 43 w.0 (λ r. omega (arith, r.0)) 0 h.0 h.1)
 
--- A text of which i bytes were read, whose digits write v.
-pub record Reading (text : List ℕ) (v i : ℕ) : Type 0 where
-  pub within : i ≤ length text
-  pub small : v ≤ 4294967295
-  pub same : number_on v (drop i text) ≡ number_of text
+-- A text that is not UTF-8 writes none.
+pub number_foreign : {S E : Type 0} (l : List ℕ) (r : Result S E) (P : S → Type 0) (Q : E → Type 0)
+    → MatchResult r P (λ e. ¬ (IsUtf8 l) × Q e)
+    → None ≡ result_ok r
+    → None ≡ number_of l
+number_foreign l (Ok s) P Q m h = absurd cc
+number_foreign l (Err e) P Q m h = number_none l (λ w. m.0 (IsUtf8-from_ascii l (IsAscii-from_digits l (own.to l w.0))))
 
--- Nothing was read.
-pub reading_start : (text : List ℕ) → 1 ≤ length text → Reading text 0 0
-reading_start text h = record { within = omega arith; small = omega arith; same = number_start text h }
+-- The text that was found to be UTF-8 is the one that was given.
+pub same_text : {E : Type 0} (l : List ℕ) (r : Result (Bor (List ℕ)) E) (d : Bor (List ℕ)) (Q : E → Type 0)
+    → MatchResult r (λ s. (s.now ≡ l) × IsUtf8 l) Q
+    → Some d ≡ result_ok r
+    → d.now ≡ l
+same_text l (Ok s) d Q m h = let e : d ≡ s = cc in rw e m.0
+same_text l (Err e) d Q m h = absurd cc
 
--- The text is what the next byte and what is behind it give.
-next : {text : List ℕ} {v i : ℕ} → Reading text v i → i < length text → number_on v (get_or text i 0 ∷ drop (suc i) text) ≡ number_of text
-next {text} {v} {i} r h = rw (drop-cons text i 0 h) at r.same
+-- Any other text writes what std reads.
 
--- The next byte is no digit.
+read_by : {E : Type 0} (l : List ℕ) (r : Result ℕ E) → OkIff r (Writes l) (value_on 0 l) → result_ok r ≡ number_of l
+read_by l (Ok x) m = rw m.1 (number_some l m.0)
+read_by l (Err e) m = number_none l m
 
-pub reading_below : {text : List ℕ} {v i : ℕ} → Reading text v i → i < length text → get_or text i 0 < 48 → NotOne ≡ number_of text
-reading_below {text} {v} {i} r h k = sym (number_below v (get_or text i 0) (drop (suc i) text) k) ∙ next r h
-
-pub reading_above : {text : List ℕ} {v i : ℕ} → Reading text v i → i < length text → 57 < get_or text i 0 → NotOne ≡ number_of text
-reading_above {text} {v} {i} r h k = sym (number_above v (get_or text i 0) (drop (suc i) text) k) ∙ next r h
-
--- The next byte is a digit, and the number with it too large, or not.
-
-module _ {text : List ℕ} {v i : ℕ} (r : Reading text v i) (h : i < length text) (low : 48 ≤ get_or text i 0) (high : get_or text i 0 ≤ 57) where
-  digit : number_on (v * 10 + (get_or text i 0 - 48)) (drop (suc i) text) ≡ number_of text
-  digit = sym (number_digit v (get_or text i 0) (drop (suc i) text) low high) ∙ next r h
-
-  pub reading_large : 4294967295 < v * 10 + (get_or text i 0 - 48) → NotOne ≡ number_of text
-  reading_large k = sym (number_large (v * 10 + (get_or text i 0 - 48)) (drop (suc i) text) k) ∙ digit
-
-  pub reading_step : v * 10 + (get_or text i 0 - 48) ≤ 4294967295 → Reading text (v * 10 + (get_or text i 0 - 48)) (i + 1)
-  reading_step k =
-      record { within = omega arith; small = k; same = rw (add-one i) digit }
-
--- Everything was read.
-pub reading_end : {text : List ℕ} {v i : ℕ} → Reading text v i → length text ≤ i → Word v ≡ number_of text
-reading_end {text} {v} {i} r h = number_end v r.small ∙ (rw (drop_of_length-le text h) at r.same)
+pub number_read : {E : Type 0} (l : List ℕ) (r : Result ℕ E) → ParsesUnsigned 32 10 l r → get_or l 0 0 ≢ 43 → result_ok r ≡ number_of l
+number_read l r h k = read_by l r (parse_plain own 32 l r h k)

@@ -1,16 +1,16 @@
--- Laws of the lines that are formed in a small buffer and appended to a text: how long a line is, that it lies within its buffer, that it
--- arrives in the text, also where it is the whole of it, and that lines of couples follow one another. Assumes nothing.
+-- Laws of the lines that are formed and appended to a text: how long a line is, which bytes make it, that it arrives in the text, also where
+-- it is the whole of it, and that lines of couples follow one another. Assumes nothing.
 use Prim.Native.Nat.{ℕ, zero, suc, ◌+◌, ◌*◌, ◌/◌, ◌≤◌, ◌<◌}
 use mathlib.Core.Path.{◌≡◌, refl, sym, ◌∙◌, ap}
 use mathlib.Core.List.{List, [], ◌∷◌, ◌++◌, append_assoc, append-nil}
 use native.Mathlib.Omega.{arith}
 use lib.ListN.{length, get_or, take, length-append}
-use lib.Seq.{take_at}
 use borrow.Author.Tests.{le-leb}
 use Rattle.model.specs.Word.{base, signed}
 use Rattle.files.specs.Files.{decimal_of, printed_of, placed}
 use Rattle.files.specs.Lines.{Front, three_of, couple_line, end_line, couple_lines, fits, behind, appended}
-use Rattle.files.proofs.Print.{length_word, printed_length, placed_front, Put, put_front}
+use Rattle.std.specs.Fmt.{decimal}
+use Rattle.files.proofs.Print.{decimal_own, length_word, printed_length, Put, put_front}
 use Rattle.files.proofs.Storing.{front, Appended, length_placed}
 
 -- Three words with their spaces and the line's end take at most 33 bytes.
@@ -38,28 +38,28 @@ length_couple port x h k =
     let q = length-append (decimal_of port) (32 ∷ (value ++ (10 ∷ []))) in
     omega (arith, length_word port h, printed_length x k, p, q)
 
--- A line that was formed in front of a buffer.
-abbrev pub Formed : List ℕ → List ℕ → ℕ → List ℕ → Type 0
-Formed s blank n line = (n ≡ length s) × (line ≡ placed 0 s blank)
+-- The bytes of a couple's line, as they are put behind one another.
+pub couple_pushed : (port x : ℕ) {l s t : List ℕ}
+    → l ≡ []
+    → s ≡ l ++ decimal port ++ 32 ∷ []
+    → t ≡ s ++ printed_of (signed base x) ++ 10 ∷ []
+    → port < 4294967296
+    → t ≡ couple_line port x
+unfolding couple_line
+couple_pushed port x e f g h = g ∙ rw (f, e, decimal_own port (omega arith)) (simp append_assoc)
 
--- It lies within the buffer.
-pub formed_within : (s blank : List ℕ) {n : ℕ} {line : List ℕ} → Formed s blank n line → length s ≤ length blank → Front n line
-formed_within s blank {n} {line} p h =
-    let k : length line ≡ length blank = ap length p.1 ∙ length_placed 0 s blank in
-    front n line (omega (arith, p.0))
-
--- It is what the buffer's front holds.
-pub formed_front : (s blank : List ℕ) {n : ℕ} {line : List ℕ} → Formed s blank n line → length s ≤ length blank → take n line ≡ s
-formed_front s blank {n} {line} p h =
-    rw (p.1, placed_front s blank h) (take_at s _ n (sym p.0))
-
--- Appended to a text, it is appended as it is.
-pub formed_appended : (at : ℕ) (s blank out : List ℕ) {n r : ℕ} {line out' : List ℕ}
-    → Formed s blank n line
-    → Appended at (take n line) out r out'
-    → length s ≤ length blank
-    → Appended at s out r out'
-formed_appended at s blank out p q h = rw (formed_front s blank p h) at q
+-- Those of three numbers with a space between them, behind what stood before.
+pub three_pushed : (a b c : ℕ) (l : List ℕ) {s t u : List ℕ}
+    → s ≡ l ++ decimal a ++ 32 ∷ []
+    → t ≡ s ++ decimal b ++ 32 ∷ []
+    → u ≡ t ++ decimal c ++ 10 ∷ []
+    → a < 4294967296
+    → b < 4294967296
+    → c < 4294967296
+    → u ≡ l ++ three_of a b c
+unfolding three_of
+three_pushed a b c l e f g h k m =
+    g ∙ rw (f, e, decimal_own a (omega arith), decimal_own b (omega arith), decimal_own c (omega arith)) (simp append_assoc)
 
 -- Where there is room, what is appended stands in the text.
 pub appended_put : (at : ℕ) (s out : List ℕ) {r : ℕ} {out' : List ℕ} → Appended at s out r out' → at + length s ≤ length out → Put at s out r out'

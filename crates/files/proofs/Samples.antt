@@ -4,8 +4,8 @@ use mathlib.Core.List.{[], ◌∷◌}
 use Rattle.model.specs.Word.{base, signed}
 use Rattle.files.specs.Files.{words_of, by_fit, taken_of, filled_of, digits, value_on, value_of, number_of, decimal_in, decimal_of, printed_of, placed}
 use Rattle.files.specs.Lines.{three_of, couple_line, end_line, fits, behind, appended}
-use Rattle.files.specs.declared.Taken.TheVariants.{Ragged, TooLong}
-use Rattle.files.specs.declared.Decimal.TheVariants.{Word, NotOne}
+use Rattle.std.specs.Prelude.{Some, None, Err}
+use Rattle.files.specs.declared.Unfit.TheVariants.{Ragged, TooLong}
 
 -- Eight bytes are the words 513 and 4294967290, and the third word of the buffer stays.
 pub two_words : filled_of (1 ∷ 2 ∷ 0 ∷ 0 ∷ 250 ∷ 255 ∷ 255 ∷ 255 ∷ []) (7 ∷ 8 ∷ 9 ∷ []) ≡ 513 ∷ 4294967290 ∷ 9 ∷ []
@@ -13,16 +13,16 @@ unfolding filled_of by_fit words_of
 two_words = refl
 
 -- Five bytes are no whole words, and two words are too many for a buffer of one.
-pub refused : (taken_of (1 ∷ 2 ∷ 3 ∷ 4 ∷ 5 ∷ []) 9 ≡ Ragged) × (taken_of (1 ∷ 2 ∷ 3 ∷ 4 ∷ 5 ∷ 6 ∷ 7 ∷ 8 ∷ []) 1 ≡ TooLong)
+pub refused : (taken_of (1 ∷ 2 ∷ 3 ∷ 4 ∷ 5 ∷ []) 9 ≡ Err Ragged) × (taken_of (1 ∷ 2 ∷ 3 ∷ 4 ∷ 5 ∷ 6 ∷ 7 ∷ 8 ∷ []) 1 ≡ Err TooLong)
 unfolding taken_of by_fit
 refused = (refl, refl)
 
 -- `0042` is 42, `4294967295` the greatest word, and `4294967296`, `4x` and the empty text are no words.
-pub numbers : (number_of (48 ∷ 48 ∷ 52 ∷ 50 ∷ []) ≡ Word 42)
-    × (number_of (52 ∷ 50 ∷ 57 ∷ 52 ∷ 57 ∷ 54 ∷ 55 ∷ 50 ∷ 57 ∷ 53 ∷ []) ≡ Word 4294967295)
-    × (number_of (52 ∷ 50 ∷ 57 ∷ 52 ∷ 57 ∷ 54 ∷ 55 ∷ 50 ∷ 57 ∷ 54 ∷ []) ≡ NotOne)
-    × (number_of (52 ∷ 120 ∷ []) ≡ NotOne)
-    × (number_of [] ≡ NotOne)
+pub numbers : (number_of (48 ∷ 48 ∷ 52 ∷ 50 ∷ []) ≡ Some 42)
+    × (number_of (52 ∷ 50 ∷ 57 ∷ 52 ∷ 57 ∷ 54 ∷ 55 ∷ 50 ∷ 57 ∷ 53 ∷ []) ≡ Some 4294967295)
+    × (number_of (52 ∷ 50 ∷ 57 ∷ 52 ∷ 57 ∷ 54 ∷ 55 ∷ 50 ∷ 57 ∷ 54 ∷ []) ≡ None)
+    × (number_of (52 ∷ 120 ∷ []) ≡ None)
+    × (number_of [] ≡ None)
 unfolding number_of digits value_of value_on
 numbers = (refl, refl, refl, refl, refl)
 

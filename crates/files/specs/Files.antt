@@ -1,11 +1,9 @@
 -- What both programs read and print: the words of a file's bytes, low byte first, a decimal number in an argument, and a signed number
 -- in decimal. 01, "The table image": "a file whose length isn't a multiple of four is refused 1 (table), 6 (correspondence) or 24 (input
 -- words, also when over 8,192)". Assumes nothing.
-use Rattle.std.specs.Prelude.{ℕ, zero, suc, ◌+◌, ◌-◌, ◌*◌, ◌/◌, ◌%◌, Bool, true, cond, ◌&&◌, List, [], ◌∷◌, ◌++◌, leb, ltb, eqb, ℤ, pos, negsuc, length, drop, set}
-use Rattle.files.specs.declared.Taken.{Taken}
-use Rattle.files.specs.declared.Taken.TheVariants.{Whole, Ragged, TooLong}
-use Rattle.files.specs.declared.Decimal.{Decimal}
-use Rattle.files.specs.declared.Decimal.TheVariants.{Word, NotOne}
+use Rattle.std.specs.Prelude.{ℕ, zero, suc, ◌+◌, ◌-◌, ◌*◌, ◌/◌, ◌%◌, Bool, true, cond, ◌&&◌, List, [], ◌∷◌, ◌++◌, Option, Some, None, Result, Ok, Err, leb, ltb, eqb, ℤ, pos, negsuc, length, drop, set}
+use Rattle.files.specs.declared.Unfit.{Unfit}
+use Rattle.files.specs.declared.Unfit.TheVariants.{Ragged, TooLong}
 
 -- The word of four bytes, the low byte first.
 abbrev pub word_of : ℕ → ℕ → ℕ → ℕ → ℕ
@@ -26,8 +24,8 @@ by_fit bytes room whole ragged too_long =
 
 -- What taking the words of the bytes into a room of so many words answers: a length that is no multiple of four, more words than the
 -- room has, or how many words were taken.
-unfoldable pub taken_of : List ℕ → ℕ → Taken
-taken_of bytes room = by_fit bytes room (Whole (length bytes / 4)) Ragged TooLong
+unfoldable pub taken_of : List ℕ → ℕ → Result ℕ Unfit
+taken_of bytes room = by_fit bytes room (Ok (length bytes / 4)) (Err Ragged) (Err TooLong)
 
 -- What taking the words of the bytes leaves in the buffer: the words in front and the buffer's own words behind them, or the buffer as
 -- it was where they were not taken.
@@ -35,10 +33,9 @@ unfoldable pub filled_of : List ℕ → List ℕ → List ℕ
 filled_of bytes out = by_fit bytes (length out) (words_of bytes ++ drop (length bytes / 4) out) out out
 
 -- How many words are lent after words were taken: those that were, or a number where none were.
-unfoldable pub lent_of : ℕ → Taken → ℕ
-lent_of other (Whole n) = n
-lent_of other Ragged = other
-lent_of other TooLong = other
+unfoldable pub lent_of : ℕ → Result ℕ Unfit → ℕ
+lent_of other (Ok n) = n
+lent_of other (Err e) = other
 
 -- Every byte of a text is a decimal digit: 48 is `0` and 57 is `9`.
 unfoldable pub digits : List ℕ → Bool
@@ -55,9 +52,9 @@ unfoldable pub value_of : List ℕ → ℕ
 value_of l = value_on 0 l
 
 -- The word that a text writes in decimal: none where the text is empty, has a byte that is no digit, or writes a number over 4294967295.
-unfoldable pub number_of : List ℕ → Decimal
+unfoldable pub number_of : List ℕ → Option ℕ
 number_of l =
-    cond (eqb (length l) 0) NotOne (cond (digits l) (cond (leb (value_of l) 4294967295) (Word (value_of l)) NotOne) NotOne)
+    cond (eqb (length l) 0) None (cond (digits l) (cond (leb (value_of l) 4294967295) (Some (value_of l)) None) None)
 
 -- The digits of a number in decimal, the first most significant, with fuel for each digit.
 unfoldable pub decimal_in : ℕ → ℕ → List ℕ

@@ -6,8 +6,7 @@ use mathlib.Core.Bool.{Bool, true, false, ◌&&◌}
 use mathlib.Core.List.{List, [], map}
 use native.Mathlib.Omega.{arith}
 use lib.Dec.{eqb}
-use lib.ListN.{length, replicate}
-use Rattle.model.specs.Answer.{up_to, word}
+use Rattle.model.specs.Answer.{up_to, word, does_not_follow, over_size}
 use Rattle.model.specs.Word.{base}
 use Rattle.model.specs.Table.{states, table_of}
 use Rattle.model.specs.Sum.{too_large, fits, symbol_sum}
@@ -15,38 +14,51 @@ use Rattle.model.specs.Path as Model
 use Rattle.model.specs.Path.{choices, walkable, end_state, side, follow}
 use Rattle.model.specs.Correspondence.{pairs, paths, link_at, path_at, pair_at}
 use Rattle.model.specs.Judgement.{start_side, first_side, second_side, judge_path, partner}
-use Rattle.fault.specs.Fault.{checked_of}
-use Rattle.fault.specs.declared.Checked.{Checked}
-use Rattle.fault.specs.declared.Checked.TheVariants.{Broken}
-use Rattle.sum.specs.declared.Size.{Size}
-use Rattle.sum.specs.declared.Size.TheVariants.{Fits, TooLarge}
+use Rattle.fault.specs.Fault.{fault_at, checked_of}
+use Rattle.fault.specs.declared.Reason.TheVariants.{NoContradiction}
+use Rattle.std.specs.Prelude.{Result, Ok, Err}
+use Rattle.sum.specs.declared.TooLarge.{TooLarge}
+use Rattle.env.specs.declared.Env.{Env}
+use Rattle.condition.specs.Conditions.{conditions_of, contradicts_in}
 use Rattle.list.specs.Checks.{path_record, pair_record}
 use Rattle.list.specs.declared.PathRecord.{PathRecord}
 use Rattle.list.specs.declared.PairRecord.{PairRecord}
 use Rattle.list.proofs.Decoding.{pair_decoded, path_decoded, links_begin, paths_begin, counts, SoundPath, SoundPair, sound_path, sound_pair}
 use Rattle.list.proofs.Linking.{Symbols, symbols_length, own_length, own_small, partners_small}
-use Rattle.side.specs.Parts.{Side, start_as}
-use Rattle.side.specs.Following.{follow_k, sized_as}
+use Rattle.side.specs.declared.Side.{Side}
+use Rattle.side.specs.Parts.{start_as}
+use Rattle.side.specs.Following.{follow_k, followed_as}
 use Rattle.side.proofs.Paper.{StandsEnv, Stands}
 use Rattle.side.proofs.Joined.{follow_large, follow_fits, symbols_stand}
-use Rattle.rules.specs.Rules.{contradicts_in}
-use Rattle.judge.specs.Judging.{found_of, asked_of, sides_in, Checks, OwnSymbols, PartnerSymbols, Walked}
+use Rattle.judge.specs.declared.images.PairOf.{PairOf}
+use Rattle.judge.specs.Images.{Checks, PartnerSymbols, Walked}
+use Rattle.judge.specs.Judging.{Checked, found_of, sides_in}
 use Rattle.judge.proofs.Paths.{path_of, marked_large, marked_found, astray, astray_second, first_large, second_large, both_found}
 
--- The arrays in which a side is followed, of the lengths that it takes.
-pub record Arrays : Type 0 where
-  pub marks : List ℕ
-  pub sums : List ℕ
-  pub written : List ℕ
-  pub full_marks : length marks ≡ 64
-  pub full_sums : length sums ≡ 2112
-  pub full_written : length written ≡ 2112
+module _ (P : PairOf) {p : PairRecord} (pe : p ≡ pair_record P.images.list.now P.i) where
+  -- The parts of the pair that is judged, and what holds of them.
 
--- Arrays as they were lent, by what their lengths are.
-abbrev pub arrays : (m c w : List ℕ) → (length m ≡ 64) × ((length c ≡ 2112) × (length w ≡ 2112)) → Arrays
-arrays m c w h = record { marks = m; sums = c; written = w; full_marks = h.0; full_sums = h.1.0; full_written = h.1.1 }
+  abbrev first : List ℕ
+  first = P.images.first.now
 
-module _ (first second list : List ℕ) (checks : Checks first second list) (i : ℕ) (inside : i < pairs list) {p : PairRecord} (pe : p ≡ pair_record list i) where
+  abbrev second : List ℕ
+  second = P.images.second.now
+
+  abbrev list : List ℕ
+  list = P.images.list.now
+
+  abbrev i : ℕ
+  i = P.i
+
+  abbrev own : Env
+  own = P.images.own.now
+
+  checks : Checks first second list
+  checks = P.images.checks
+
+  inside : i < pairs list
+  inside = P.inside
+
   -- The pair that the record holds.
   pair_here : pair_at list i ≡ record { first = p.first; second = p.second; links = map (link_at list) (up_to p.link p.links); paths = map (path_at list) (up_to p.path p.paths) }
   pair_here = pair_decoded list i pe
@@ -66,13 +78,13 @@ module _ (first second list : List ℕ) (checks : Checks first second list) (i :
   pub pair_paths : (pair_at list i).paths ≡ map (path_at list) (up_to p.path p.paths)
   pair_paths = ap (λ q. q.paths) pair_here
 
-  own_stands : (own : List ℕ) → OwnSymbols own → StandsEnv own (map symbol_sum (up_to 0 16))
-  own_stands own e = rw e (symbols_stand (up_to 0 16) (replicate 528 0) own_length refl own_small)
+  own_stands : StandsEnv own (map symbol_sum (up_to 0 16))
+  own_stands = rw P.images.own_symbols (symbols_stand (up_to 0 16) own_length own_small)
 
-  linked_stands : (linked : List ℕ) → PartnerSymbols list i linked → StandsEnv linked (map symbol_sum (map (partner (pair_at list i).links) (up_to 0 16)))
+  linked_stands : (linked : Env) → PartnerSymbols list i linked → StandsEnv linked (map symbol_sum (map (partner (pair_at list i).links) (up_to 0 16)))
   linked_stands linked e =
       rw (e, pair_links)
-      (symbols_stand (Symbols _) (replicate 528 0) (symbols_length _) refl (partners_small (states first) (states second) list checks.2 i pe inside))
+      (symbols_stand (Symbols _) (symbols_length _) (partners_small (states first) (states second) list checks.2 i pe inside))
 
   -- The sides at the start of its paths.
 
@@ -116,24 +128,24 @@ module _ (first second list : List ℕ) (checks : Checks first second list) (i :
     by_parts h = ap (λ q. checked_of (judge_path base (table_of first) (table_of second) (pair_at list) (pair_at list i) q)) (sym (path_marked h))
 
     -- The first side.
-    module _ (own : List ℕ) (oe : OwnSymbols own) (w : Arrays) (z : Size) (f : Side)
-        (fe : sized_as z f ≡ follow_k (table_of first) bits (start_as p.first own w.marks w.sums w.written)) where
-      one_large : z ≡ TooLarge → follow base (table_of first) bits (first_side (pair_at list i)) ≡ too_large
+    module _ (z : Result (Unit {0}) TooLarge) (f : Side)
+        (fe : followed_as z f ≡ follow_k (table_of first) bits (start_as p.first own)) where
+      one_large : z ≡ Err (record {}) → follow base (table_of first) bits (first_side (pair_at list i)) ≡ too_large
       one_large h =
           rw first_side_lem
-          (follow_large first p.first r.length r.choices own w.marks w.sums w.written _ path_sound.short (own_stands own oe) w.full_marks w.full_sums w.full_written z f fe h)
+          (follow_large first p.first r.length r.choices own _ path_sound.short own_stands z f fe h)
 
-      one_fits : z ≡ Fits → (m : Model.Side) × (follow base (table_of first) bits (first_side (pair_at list i)) ≡ fits m) × Stands f m
+      one_fits : z ≡ Ok tt → (m : Model.Side) × (follow base (table_of first) bits (first_side (pair_at list i)) ≡ fits m) × Stands f m
       one_fits h =
           rw first_side_lem
-          (follow_fits first p.first r.length r.choices own w.marks w.sums w.written _ path_sound.short (own_stands own oe) w.full_marks w.full_sums w.full_written z f fe h)
+          (follow_fits first p.first r.length r.choices own _ path_sound.short own_stands z f fe h)
 
       -- A marked path.
 
-      pub judged_large : (path_at list j).impossible ≡ true → z ≡ TooLarge → Broken 13 j ≡ Judged
+      pub judged_large : (path_at list j).impossible ≡ true → z ≡ Err (record {}) → Err (fault_at over_size j) ≡ Judged
       judged_large h k = marked_large (table_of first) (table_of second) (pair_at list) (pair_at list i) j bits bits' r.target (one_large k) ∙ by_parts h
 
-      pub judged_marked : (path_at list j).impossible ≡ true → z ≡ Fits → {b : Bool} {q : Checked} → b ≡ contradicts_in (asked_of f.conditions) → q ≡ found_of b 15 j → q ≡ Judged
+      pub judged_marked : (path_at list j).impossible ≡ true → z ≡ Ok tt → {b : Bool} {q : Checked} → b ≡ contradicts_in (conditions_of f.conditions) → q ≡ found_of b NoContradiction j → q ≡ Judged
       judged_marked h k c e =
           let (m, fit, stands) = one_fits k in
           e ∙ marked_found (table_of first) (table_of second) (pair_at list) (pair_at list i) j bits bits' r.target f m stands fit c ∙ by_parts h
@@ -157,7 +169,7 @@ module _ (first second list : List ℕ) (checks : Checks first second list) (i :
       lead_one : one ≡ (walkable (table_of first) (pair_at list i).first bits && eqb (end_state (table_of first) (pair_at list i).first bits) (pair_at list r.target).first)
       lead_one = rw (pair_first, goal) oe
 
-      pub judged_astray : one ≡ false → Broken 12 j ≡ Judged
+      pub judged_astray : one ≡ false → Err (fault_at does_not_follow j) ≡ Judged
       judged_astray h = astray (table_of first) (table_of second) (pair_at list) (pair_at list i) j bits bits' r.target walks lead_one h ∙ by_parts unmarked
 
       -- Where its second choices lead, too.
@@ -166,36 +178,36 @@ module _ (first second list : List ℕ) (checks : Checks first second list) (i :
         lead_other : other ≡ (walkable (table_of second) (pair_at list i).second bits' && eqb (end_state (table_of second) (pair_at list i).second bits') (pair_at list r.target).second)
         lead_other = rw (pair_second, goal) se
 
-        pub judged_astray_second : one ≡ true → other ≡ false → Broken 12 j ≡ Judged
+        pub judged_astray_second : one ≡ true → other ≡ false → Err (fault_at does_not_follow j) ≡ Judged
         judged_astray_second h k = astray_second (table_of first) (table_of second) (pair_at list) (pair_at list i) j bits bits' r.target walks lead_one lead_other h k ∙ by_parts unmarked
 
         -- Its two sides.
-        module _ (ho : one ≡ true) (hs : other ≡ true) (own : List ℕ) (we : OwnSymbols own) (w : Arrays) (z : Size) (f : Side)
-            (fe : sized_as z f ≡ follow_k (table_of first) bits (start_as p.first own w.marks w.sums w.written)) where
-          pub judged_first_large : z ≡ TooLarge → Broken 13 j ≡ Judged
+        module _ (ho : one ≡ true) (hs : other ≡ true) (z : Result (Unit {0}) TooLarge) (f : Side)
+            (fe : followed_as z f ≡ follow_k (table_of first) bits (start_as p.first own)) where
+          pub judged_first_large : z ≡ Err (record {}) → Err (fault_at over_size j) ≡ Judged
           judged_first_large h =
-              first_large (table_of first) (table_of second) (pair_at list) (pair_at list i) j bits bits' r.target walks lead_one lead_other ho hs (one_large own we w z f fe h) ∙ by_parts unmarked
+              first_large (table_of first) (table_of second) (pair_at list) (pair_at list i) j bits bits' r.target walks lead_one lead_other ho hs (one_large z f fe h) ∙ by_parts unmarked
 
-          module _ (Fits-one : z ≡ Fits) (linked : List ℕ) (le : PartnerSymbols list i linked) (v : Arrays) (y : Size) (g : Side)
-              (ge : sized_as y g ≡ follow_k (table_of second) bits' (start_as p.second linked v.marks v.sums v.written)) where
-            other_large : y ≡ TooLarge → follow base (table_of second) bits' (second_side (pair_at list i)) ≡ too_large
+          module _ (one-fits : z ≡ Ok tt) (linked : Env) (le : PartnerSymbols list i linked) (y : Result (Unit {0}) TooLarge) (g : Side)
+              (ge : followed_as y g ≡ follow_k (table_of second) bits' (start_as p.second linked)) where
+            other_large : y ≡ Err (record {}) → follow base (table_of second) bits' (second_side (pair_at list i)) ≡ too_large
             other_large h =
                 rw second_side_lem
-                (follow_large second p.second r.second_length r.second_choices linked v.marks v.sums v.written _ path_sound.short2 (linked_stands linked le) v.full_marks v.full_sums v.full_written y g ge h)
+                (follow_large second p.second r.second_length r.second_choices linked _ path_sound.short2 (linked_stands linked le) y g ge h)
 
-            other_fits : y ≡ Fits → (m : Model.Side) × (follow base (table_of second) bits' (second_side (pair_at list i)) ≡ fits m) × Stands g m
+            other_fits : y ≡ Ok tt → (m : Model.Side) × (follow base (table_of second) bits' (second_side (pair_at list i)) ≡ fits m) × Stands g m
             other_fits h =
                 rw second_side_lem
-                (follow_fits second p.second r.second_length r.second_choices linked v.marks v.sums v.written _ path_sound.short2 (linked_stands linked le) v.full_marks v.full_sums v.full_written y g ge h)
+                (follow_fits second p.second r.second_length r.second_choices linked _ path_sound.short2 (linked_stands linked le) y g ge h)
 
-            pub judged_second_large : y ≡ TooLarge → Broken 13 j ≡ Judged
+            pub judged_second_large : y ≡ Err (record {}) → Err (fault_at over_size j) ≡ Judged
             judged_second_large h =
-                let (m, fit, stands) = one_fits own we w z f fe Fits-one in
+                let (m, fit, stands) = one_fits z f fe one-fits in
                 second_large (table_of first) (table_of second) (pair_at list) (pair_at list i) j bits bits' r.target walks lead_one lead_other ho hs fit (other_large h) ∙ by_parts unmarked
 
-            pub judged_both : y ≡ Fits → {from : ℕ} → from ≡ word list 5 → {k : Checked} → k ≡ checked_of (sides_in list from q.link q.links j f g) → k ≡ Judged
+            pub judged_both : y ≡ Ok tt → {from : ℕ} → from ≡ word list 5 → {k : Checked} → k ≡ checked_of (sides_in list from q.link q.links j f g) → k ≡ Judged
             judged_both h fr e =
-                let (m, fit, stands) = one_fits own we w z f fe Fits-one in
+                let (m, fit, stands) = one_fits z f fe one-fits in
                 let (n, fit', stands') = other_fits h in
                 both_found (table_of first) (table_of second) (pair_at list) (pair_at list i) j bits bits' r.target walks lead_one lead_other ho hs f g m n stands stands' fit fit' list q.link q.links
                 (fr ∙ links_begin (states first) (states second) list checks.2)

@@ -5,7 +5,8 @@ use mathlib.Core.Path.{◌≡◌, refl, sym, ◌∙◌, ap}
 use mathlib.Core.Bool.{Bool, true, false, ◌&&◌}
 use mathlib.Core.List.{List, [], ◌∷◌, map}
 use lib.Dec.{eqb}
-use Rattle.model.specs.Answer.{number_of, up_to, so, check, does_not_follow, no_contradiction}
+use Rattle.std.specs.Prelude.{Err}
+use Rattle.model.specs.Answer.{up_to, so, check, does_not_follow, over_size, no_contradiction}
 use Rattle.model.specs.Word.{base}
 use Rattle.model.specs.Table.{Table}
 use Rattle.model.specs.Sum.{Outcome, too_large, fits}
@@ -13,14 +14,13 @@ use Rattle.model.specs.Path as Model
 use Rattle.model.specs.Path.{walkable, end_state, side, follow}
 use Rattle.model.specs.Correspondence.{Pair, Path, links_at, link_at}
 use Rattle.model.specs.Judgement.{contradicts, first_side, second_side, when_fits, judge_impossible, judge_sides, leads_to, judge_possible, judge_path}
-use Rattle.fault.specs.Fault.{checked_of}
-use Rattle.fault.specs.declared.Checked.{Checked}
-use Rattle.fault.specs.declared.Checked.TheVariants.{Broken}
-use Rattle.side.specs.Parts.{Side}
+use Rattle.fault.specs.Fault.{fault_at, checked_of}
+use Rattle.fault.specs.declared.Reason.TheVariants.{NoContradiction}
+use Rattle.condition.specs.Conditions.{conditions_of, contradicts_in}
+use Rattle.side.specs.declared.Side.{Side}
 use Rattle.side.proofs.Paper.{Stands}
-use Rattle.rules.specs.Rules.{contradicts_in}
 use Rattle.rules.proofs.Paper.{contradicts_paper}
-use Rattle.judge.specs.Judging.{found_of, asked_of, sides_in}
+use Rattle.judge.specs.Judging.{Checked, found_of, sides_in}
 use Rattle.judge.proofs.Findings.{test_broken, test_passed, test_last}
 use Rattle.judge.proofs.Sides.{one_few, sides_paper}
 
@@ -43,12 +43,12 @@ module _ (t u : Table) (pair_of : ℕ → Pair) (P : Pair) (j : ℕ) (bs cs : Li
 
   -- A marked path.
 
-  pub marked_large : First ≡ too_large → Broken 13 j ≡ Found true
-  unfolding judge_path when_fits checked_of number_of
+  pub marked_large : First ≡ too_large → Err (fault_at over_size j) ≡ Found true
+  unfolding judge_path when_fits checked_of
   marked_large e = rw e refl
 
-  pub marked_found : (a : Side) (m : Model.Side) → Stands a m → First ≡ fits m → {b : Bool} → b ≡ contradicts_in (asked_of a.conditions) → found_of b 15 j ≡ Found true
-  unfolding judge_path when_fits judge_impossible number_of
+  pub marked_found : (a : Side) (m : Model.Side) → Stands a m → First ≡ fits m → {b : Bool} → b ≡ contradicts_in (conditions_of a.conditions) → found_of b NoContradiction j ≡ Found true
+  unfolding judge_path when_fits judge_impossible
   marked_found a m h e {b} c =
       let paper : b ≡ contradicts base m.conditions = c ∙ contradicts_paper _ _ h.conditions in
       rw (e, paper, one_few a m h j (check no_contradiction j (so (contradicts base m.conditions) ∷ []))) (test_last no_contradiction j (contradicts base m.conditions))
@@ -62,8 +62,8 @@ module _ (t u : Table) (pair_of : ℕ → Pair) (P : Pair) (j : ℕ) (bs cs : Li
         let ends : first ≡ eqb (end_state t P.first bs) (pair_of target).first = rw walked at one in
         rw (← ends) refl
 
-    pub astray : first ≡ false → Broken 12 j ≡ Found false
-    unfolding judge_path judge_possible number_of
+    pub astray : first ≡ false → Err (fault_at does_not_follow j) ≡ Found false
+    unfolding judge_path judge_possible
     astray h = test_broken does_not_follow j _ (leads_by ∙ (rw h refl))
 
   module _ {first second : Bool} (walked : walkable t P.first bs ≡ true)
@@ -72,8 +72,8 @@ module _ (t u : Table) (pair_of : ℕ → Pair) (P : Pair) (j : ℕ) (bs cs : Li
     leads_is : leads_to t u P (path_of j bs cs target false) (pair_of target) ≡ (first && second)
     leads_is = leads_by walked one ∙ ap (λ b. first && b) (sym other)
 
-    pub astray_second : first ≡ true → second ≡ false → Broken 12 j ≡ Found false
-    unfolding judge_path judge_possible number_of
+    pub astray_second : first ≡ true → second ≡ false → Err (fault_at does_not_follow j) ≡ Found false
+    unfolding judge_path judge_possible
     astray_second h k = test_broken does_not_follow j _ (leads_is ∙ (rw (h, k) refl))
 
     -- It leads there: what is found of its sides.
@@ -82,12 +82,12 @@ module _ (t u : Table) (pair_of : ℕ → Pair) (P : Pair) (j : ℕ) (bs cs : Li
     unfolding judge_path judge_possible
     sides_of h k = test_passed does_not_follow j _ (leads_is ∙ (rw (h, k) refl))
 
-    pub first_large : first ≡ true → second ≡ true → First ≡ too_large → Broken 13 j ≡ Found false
-    unfolding when_fits checked_of number_of
+    pub first_large : first ≡ true → second ≡ true → First ≡ too_large → Err (fault_at over_size j) ≡ Found false
+    unfolding when_fits checked_of
     first_large h k e = rw (sides_of h k, e) refl
 
-    pub second_large : first ≡ true → second ≡ true → {m : Model.Side} → First ≡ fits m → Second ≡ too_large → Broken 13 j ≡ Found false
-    unfolding when_fits checked_of number_of
+    pub second_large : first ≡ true → second ≡ true → {m : Model.Side} → First ≡ fits m → Second ≡ too_large → Err (fault_at over_size j) ≡ Found false
+    unfolding when_fits checked_of
     second_large h k e f = rw (sides_of h k, e, f) refl
 
     pub both_found : first ≡ true → second ≡ true → (a b : Side) (m n : Model.Side) → Stands a m → Stands b n → First ≡ fits m → Second ≡ fits n

@@ -14,7 +14,7 @@ use Rattle.model.specs.Sum.{same, lower, precedes, place, merge, Rising}
 use Rattle.model.proofs.Basics.{same_symbols}
 use Rattle.model.proofs.Normal.{precedes_total, place_cases}
 use Rattle.key.specs.Key.{Small, pack_on, pack, symbol_of, count_of, merge_in, merge_of, merged_of}
-use Rattle.key.specs.declared.Merged.TheVariants.{TooMany, Packed}
+use Rattle.std.specs.Prelude.{Some, None}
 use Rattle.key.proofs.Digits.{count_none, count_one, count_two, count_three, count_four, merge_end, merge_second, merge_first, merged_fits, merged_many}
 
 -- The order of packed lists.
@@ -359,13 +359,13 @@ pack_merge l m h k r s c = merged_alike 4 l m h k r s c
 
 -- The merge of two packed lists is what the paper says: too many symbols, or the merged list, packed.
 pub pack_merged : (l m : List ℕ) → Small l → Small m → Rising l → Rising m → length l ≤ 4 → length m ≤ 4
-    → merged_of (pack l) (pack m) ≡ cond (leb (length l + length m) 4) (Packed (pack (merge l m))) TooMany
+    → merged_of (pack l) (pack m) ≡ cond (leb (length l + length m) 4) (Some (pack (merge l m))) None
 pack_merged l m h k r s c d = choice (leb (length l + length m) 4) refl
   where
     counts : count_of (pack l) + count_of (pack m) ≡ length l + length m
     counts = omega (arith, pack_count l h c, pack_count m k d)
 
-    choice : (t : Bool) → leb (length l + length m) 4 ≡ t → merged_of (pack l) (pack m) ≡ cond t (Packed (pack (merge l m))) TooMany
+    choice : (t : Bool) → leb (length l + length m) 4 ≡ t → merged_of (pack l) (pack m) ≡ cond t (Some (pack (merge l m))) None
     choice true e =
         let g : length l + length m ≤ 4 = leb-true _ 4 e in
         sym (merged_fits (pack l) (pack m) (omega (arith, counts)) (sym (pack_merge l m h k r s g)))

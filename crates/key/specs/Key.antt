@@ -1,9 +1,7 @@
 -- Symbol lists packed into numbers. The symbols of a term, a rising list of at most 4 symbols below 127, are the digits of one
 -- number to the base 128, each symbol x as the digit x + 1, the first symbol most significant. So no digit is 0, a shorter list is a
 -- smaller number, and lists of one length compare as 01 orders them, "by first differing symbol, the lower first". Assumes nothing.
-use Rattle.std.specs.Prelude.{ℕ, zero, suc, ◌+◌, ◌*◌, ◌/◌, ◌%◌, ◌<◌, cond, List, [], ◌∷◌, leb, ltb, eqb}
-use Rattle.key.specs.declared.Merged.{Merged}
-use Rattle.key.specs.declared.Merged.TheVariants.{TooMany, Packed}
+use Rattle.std.specs.Prelude.{ℕ, zero, suc, ◌+◌, ◌*◌, ◌/◌, ◌%◌, ◌<◌, cond, List, [], ◌∷◌, leb, ltb, eqb, Option, Some, None}
 
 -- Every symbol of a list has a digit.
 unfoldable pub Small : List ℕ → Type 0
@@ -43,6 +41,6 @@ merge_in (suc n) a b =
 unfoldable pub merge_of : ℕ → ℕ → ℕ
 merge_of a b = merge_in 4 a b
 
--- What the merge of two packed lists is: too many symbols, or the packed list of both.
-unfoldable pub merged_of : ℕ → ℕ → Merged
-merged_of a b = cond (leb (count_of a + count_of b) 4) (Packed (merge_of a b)) TooMany
+-- What the merge of two packed lists is: the packed list of both, unless that has too many symbols.
+unfoldable pub merged_of : ℕ → ℕ → Option ℕ
+merged_of a b = cond (leb (count_of a + count_of b) 4) (Some (merge_of a b)) None

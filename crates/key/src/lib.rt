@@ -18,51 +18,42 @@ const FOUR: u32 = BASE * THREE;
 
 const FIVE: u32 = BASE * FOUR;
 
-// What a merge of two packed lists gives: more symbols than a term has, or the packed list of both.
-#[derive(Clone, Copy)]
-pub enum Merged {
-    TooMany,
-    Packed(u32),
-}
-
 // The list of one symbol, packed; 0 for a symbol that has no digit.
+// Stays: symbol_of of specs/Key is this number, 0 too, and environments are filled with it as it is.
+#[tactic(auto, unfolding(crate::specs::Key::symbol_of, crate::specs::Key::pack, crate::specs::Key::pack_on))]
 pub fn symbol(x: u32) -> u32
     ensures { result ≡ symbol_of x }
 {
     if x < BASE - 1 { x + 1 } else { 0 }
 }
 
+// Stays: 5 for too many is what `count_of` says.
 // How many symbols a packed list has, and 5 for every number past the packed lists of 4.
+#[tactic(auto, unfolding(crate::specs::Key::count_of))]
 pub fn count(mono: u32) -> u32
     ensures { result ≡ count_of mono }
 {
-    if mono < 1 {
-        return 0;
+    match mono {
+        0 => 0,
+        1..BASE => 1,
+        BASE..THREE => 2,
+        THREE..FOUR => 3,
+        FOUR..FIVE => 4,
+        _ => 5,
     }
-    if mono < BASE {
-        return 1;
-    }
-    if mono < THREE {
-        return 2;
-    }
-    if mono < FOUR {
-        return 3;
-    }
-    if mono < FIVE {
-        return 4;
-    }
-    5
 }
 
-// The packed list of the symbols of two packed lists. The digits go over from the last, the greater of the two last ones each time.
-pub fn merge(a: u32, b: u32) -> Merged
+// The packed list of the symbols of two packed lists, unless it has more symbols than a term has. The digits go over from the last, the
+// greater of the two last ones each time.
+#[tactic(auto, using(crate::proofs::Digits::merging))]
+pub fn merge(a: u32, b: u32) -> Option<u32>
     ensures { result ≡ merged_of a b }
 {
     if SYMBOLS < count(a) + count(b) {
-        return Merged::TooMany;
+        return None;
     }
     if b == 0 {
-        return Merged::Packed(a);
+        return Some(a);
     }
     let mut first = a;
     let mut second = b;
@@ -80,5 +71,5 @@ pub fn merge(a: u32, b: u32) -> Merged
         }
         scale *= BASE;
     }
-    Merged::Packed(merged + second * scale)
+    Some(merged + second * scale)
 }

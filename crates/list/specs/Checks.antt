@@ -4,8 +4,6 @@ use Rattle.std.specs.Prelude.{ℕ, ◌+◌, ◌*◌, List, [], ◌∷◌, ◌++�
 use Rattle.model.specs.Answer.{Fault, ◌then◌, up_to, Rule, le, lt, so, check, word, wrong_link, wrong_path, wrong_pair}
 use Rattle.model.specs.Table.{distinct}
 use Rattle.model.specs.Correspondence.{side_rules, mark_rules, reset_rules}
-use Rattle.list.specs.declared.Area.{Area}
-use Rattle.list.specs.declared.Area.TheVariants.{Links, Paths, Pairs}
 use Rattle.list.specs.declared.LinkRecord.{LinkRecord}
 use Rattle.list.specs.declared.PathRecord.{PathRecord}
 use Rattle.list.specs.declared.PairRecord.{PairRecord}
@@ -75,11 +73,17 @@ pair_rules limits pair i =
 unfoldable pub seconds_in : List ℕ → ℕ → ℕ → ℕ → List ℕ
 seconds_in list at i n = map (λ j. (link_record list at j).second) (up_to i n)
 
--- What is found in record i of an area.
-unfoldable pub fault_in : Area → Limits → List ℕ → ℕ → Fault
-fault_in Links limits list i = check wrong_link i (link_rules (link_record list limits.links_at i))
-fault_in Paths limits list i = check wrong_path i (path_rules limits.pairs (path_record list limits.paths_at i))
-fault_in Pairs limits list i =
+-- What is found in link i.
+unfoldable pub link_found : Limits → List ℕ → ℕ → Fault
+link_found limits list i = check wrong_link i (link_rules (link_record list limits.links_at i))
+
+-- What is found in path i.
+unfoldable pub path_found : Limits → List ℕ → ℕ → Fault
+path_found limits list i = check wrong_path i (path_rules limits.pairs (path_record list limits.paths_at i))
+
+-- What is found in pair i: in its own fields, and then in the second variables of its links.
+unfoldable pub pair_found : Limits → List ℕ → ℕ → Fault
+pair_found limits list i =
     let pair = pair_record list i in
     let once = check wrong_pair i (so (distinct (seconds_in list limits.links_at pair.link pair.links)) ∷ []) in
     check wrong_pair i (pair_rules limits pair i) then once

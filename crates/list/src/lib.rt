@@ -4,23 +4,14 @@
 #![tactic(auto)]
 
 ghost use Rattle.std.specs.Prelude.{◌≡◌, map, ◌+◌, ◌≤◌, ◌<◌, ◌^◌, leb};
-ghost use Rattle.model.specs.Answer.{first_of, up_to, all_kept};
-ghost use Rattle.model.specs.Table.{member, distinct};
+ghost use Rattle.model.specs.Answer.{up_to, all_kept};
 ghost use Rattle.model.specs.Correspondence.{links_at, link_at, list_rules, side_rules, mark_rules, list_fault};
 ghost use Rattle.model.specs.Judgement.{partner};
 ghost use Rattle.fault.specs.Fault.{checked_of};
-ghost use Rattle.list.specs.Checks.{link_record, path_record, pair_record, limits_of, link_rules, path_rules, pair_rules, seconds_in, fault_in};
+ghost use Rattle.list.specs.Checks.{link_record, path_record, pair_record, limits_of, link_rules, path_rules, pair_rules, link_found, path_found, pair_found};
 
-use fault::Checked;
-use table::word_at;
-
-// The areas of records.
-#[derive(Clone, Copy)]
-enum Area {
-    Links,
-    Paths,
-    Pairs,
-}
+use fault::{Fault, Reason};
+use table::{word_at, words_at};
 
 // The fields of a link: the first's variable and the second's.
 #[derive(Clone, Copy)]
@@ -66,91 +57,74 @@ struct Limits {
 }
 
 // The fields of link i, where the links begin at a place.
+#[tactic(auto, unfolding(crate::specs::Checks::link_record))]
 pub fn link(list: &[u32], at: u32, i: u32) -> LinkRecord
     ensures { result ≡ link_record list.now at i }
 {
-    let place = (at as usize) + 2 * (i as usize);
-    LinkRecord {
-        first: word_at(list, place),
-        second: word_at(list, place + 1),
-    }
+    let [first, second] = words_at::<2>(list, (at as usize) + 2 * (i as usize));
+    LinkRecord { first, second }
 }
 
 // The fields of path i, where the paths begin at a place.
+#[tactic(auto, unfolding(crate::specs::Checks::path_record))]
 pub fn path(list: &[u32], at: u32, i: u32) -> PathRecord
     ensures { result ≡ path_record list.now at i }
 {
-    let place = (at as usize) + 6 * (i as usize);
+    let [length, choices, second_length, second_choices, target, mark] = words_at::<6>(
+        list,
+        (at as usize) + 6 * (i as usize),
+    );
     PathRecord {
-        length: word_at(list, place),
-        choices: word_at(list, place + 1),
-        second_length: word_at(list, place + 2),
-        second_choices: word_at(list, place + 3),
-        target: word_at(list, place + 4),
-        mark: word_at(list, place + 5),
+        length,
+        choices,
+        second_length,
+        second_choices,
+        target,
+        mark,
     }
 }
 
 // The fields of pair i.
+#[tactic(auto, unfolding(crate::specs::Checks::pair_record))]
 pub fn pair(list: &[u32], i: u32) -> PairRecord
     ensures { result ≡ pair_record list.now i }
 {
-    let place = 8 + 6 * (i as usize);
+    let [first, second, link, links, path, paths] = words_at::<6>(list, 8 + 6 * (i as usize));
     PairRecord {
-        first: word_at(list, place),
-        second: word_at(list, place + 1),
-        link: word_at(list, place + 2),
-        links: word_at(list, place + 3),
-        path: word_at(list, place + 4),
-        paths: word_at(list, place + 5),
+        first,
+        second,
+        link,
+        links,
+        path,
+        paths,
     }
 }
 
 // Whether the header is right: the kind, the length, the counts, and the offsets that they fix.
+#[tactic(auto, unfolding(model::specs::Correspondence::list_rules, model::specs::Correspondence::pairs, model::specs::Correspondence::links, model::specs::Correspondence::paths, model::specs::Correspondence::links_at, model::specs::Correspondence::paths_at, model::specs::Answer::all_kept, model::specs::Answer::kept))]
 fn header_fits(list: &[u32]) -> bool
     ensures { result ≡ all_kept (list_rules list.now) }
 {
-    if word_at(list, 0) != 2 {
-        return false;
-    }
-    let length = word_at(list, 1) as usize;
-    if length != list.len() {
-        return false;
-    }
-    let pairs = word_at(list, 2);
-    if pairs < 1 {
-        return false;
-    }
-    if pairs > 64 {
-        return false;
-    }
-    if word_at(list, 3) != 8 {
-        return false;
-    }
-    let links = word_at(list, 4);
-    if links > 1024 {
-        return false;
-    }
+    let pairs = word_at(list, 2) as usize;
+    let links = word_at(list, 4) as usize;
+    let paths = word_at(list, 6) as usize;
     let links_at = 8 + 6 * pairs;
-    if word_at(list, 5) != links_at {
-        return false;
-    }
-    let paths = word_at(list, 6);
-    if paths > 512 {
-        return false;
-    }
     let paths_at = links_at + 2 * links;
-    if word_at(list, 7) != paths_at {
-        return false;
-    }
     let end = paths_at + 6 * paths;
-    if length != (end as usize) {
-        return false;
-    }
-    true
+    word_at(list, 0) == 2
+        && word_at(list, 1) as usize == list.len()
+        && 1 <= pairs
+        && pairs <= 64
+        && word_at(list, 3) == 8
+        && links <= 1024
+        && word_at(list, 5) as usize == links_at
+        && paths <= 512
+        && word_at(list, 7) as usize == paths_at
+        && list.len() == end
 }
 
 // What the records are held to, the counts and offsets as the header has them.
+#[tactic(auto, unfolding(crate::specs::Checks::limits_of))]
 fn read_limits(first: u32, second: u32, list: &[u32]) -> Limits
     ensures { result ≡ limits_of first second list.now }
 {
@@ -166,250 +140,147 @@ fn read_limits(first: u32, second: u32, list: &[u32]) -> Limits
 }
 
 // Whether a link's variables are right.
+#[tactic(auto, unfolding(crate::specs::Checks::link_rules, model::specs::Answer::all_kept, model::specs::Answer::kept))]
 fn link_fits(link: LinkRecord) -> bool
     ensures { result ≡ all_kept (link_rules link) }
 {
-    if link.first > 15 {
-        return false;
-    }
-    link.second <= 15
-}
-
-// 2 to the power n.
-fn power(n: u32) -> u64
-    requires { n ≤ 32 }
-    ensures { result ≡ 2 ^ n }
-{
-    let mut r: u64 = 1;
-    let mut i = 0;
-    while i < n {
-        r *= 2;
-        i += 1;
-    }
-    r
+    link.first <= 15 && link.second <= 15
 }
 
 // Whether a side of a path is right: 1 to 32 edges, and no bit past the length.
+#[tactic(auto, unfolding(model::specs::Correspondence::side_rules, model::specs::Answer::all_kept, model::specs::Answer::kept))]
 fn side_fits(length: u32, choices: u32) -> bool
     ensures { result ≡ all_kept (side_rules length choices) }
 {
-    if length < 1 {
-        return false;
-    }
-    if length > 32 {
-        return false;
-    }
-    (choices as u64) < power(length)
+    1 <= length && length <= 32 && u64::from(choices) < 1 << length
 }
 
 // Whether what the mark asks is right, where there are so many pairs.
+#[tactic(auto, unfolding(model::specs::Correspondence::mark_rules, model::specs::Answer::all_kept, model::specs::Answer::kept))]
 fn mark_fits(pairs: u32, mark: u32, length: u32, choices: u32, target: u32) -> bool
     ensures { result ≡ all_kept (mark_rules pairs mark length choices target) }
 {
-    if mark == 0 {
-        if target >= pairs {
-            return false;
-        }
-        return side_fits(length, choices);
+    // Stays: the record's number is checked here.
+    match mark {
+        0 => target < pairs && side_fits(length, choices),
+        1 => length == 0 && choices == 0 && target == 0,
+        _ => false,
     }
-    if mark > 1 {
-        return false;
-    }
-    if length != 0 {
-        return false;
-    }
-    if choices != 0 {
-        return false;
-    }
-    target == 0
 }
 
 // Whether the fields of a path are right: its first side, then what its mark asks.
+#[tactic(auto, using(crate::proofs::Fields::kept_both), unfolding(crate::specs::Checks::path_rules))]
 fn path_fits(pairs: u32, path: PathRecord) -> bool
     ensures { result ≡ all_kept (path_rules pairs path) }
 {
-    if !side_fits(path.length, path.choices) {
-        return false;
-    }
-    mark_fits(
-        pairs,
-        path.mark,
-        path.second_length,
-        path.second_choices,
-        path.target,
-    )
+    side_fits(path.length, path.choices)
+        && mark_fits(
+            pairs,
+            path.mark,
+            path.second_length,
+            path.second_choices,
+            path.target,
+        )
 }
 
 // Whether a range is right: its start plus its count, not wrapped, is at most the area's count.
 fn range_fits(start: u32, count: u32, all: u32) -> bool
     ensures { result ≡ leb (start + count) all }
 {
-    let end = (start as u64) + (count as u64);
-    end <= (all as u64)
+    let end = u64::from(start) + u64::from(count);
+    end <= u64::from(all)
 }
 
 // Whether the fields of pair i are right.
+#[tactic(auto, unfolding(crate::specs::Checks::pair_rules, model::specs::Correspondence::reset_rules, model::specs::Answer::all_kept, model::specs::Answer::kept))]
 fn pair_fits(limits: Limits, pair: PairRecord, i: u32) -> bool
     ensures { result ≡ all_kept (pair_rules limits pair i) }
 {
-    if pair.first >= limits.first {
-        return false;
-    }
-    if pair.second >= limits.second {
-        return false;
-    }
-    if !range_fits(pair.link, pair.links, limits.links) {
-        return false;
-    }
-    if !range_fits(pair.path, pair.paths, limits.paths) {
-        return false;
-    }
-    if i != 0 {
-        return true;
-    }
-    if pair.first != 0 {
-        return false;
-    }
-    pair.second == 0
-}
-
-// Whether the second variable stands in some links.
-fn links_second(list: &[u32], at: u32, variable: u32, first: u32, count: u32) -> bool
-    requires { first + count < 2 ^ 32 }
-    ensures { result ≡ member variable (seconds_in list.now at first count) }
-{
-    let mut i = first;
-    let mut left = count;
-    while 0 < left {
-        let here = link(list, at, i);
-        if variable == here.second {
-            return true;
-        }
-        i += 1;
-        left -= 1;
-    }
-    false
-}
-
-// Whether no second variable stands twice in some links.
-fn links_once(list: &[u32], at: u32, first: u32, count: u32) -> bool
-    requires { first + count < 2 ^ 32 }
-    ensures { result ≡ distinct (seconds_in list.now at first count) }
-{
-    let mut i = first;
-    let mut left = count;
-    while 0 < left {
-        let here = link(list, at, i);
-        i += 1;
-        left -= 1;
-        if links_second(list, at, here.second, i, left) {
-            return false;
-        }
-    }
-    true
+    pair.first < limits.first
+        && pair.second < limits.second
+        && range_fits(pair.link, pair.links, limits.links)
+        && range_fits(pair.path, pair.paths, limits.paths)
+        && (i != 0 || pair.first == 0 && pair.second == 0)
 }
 
 // The check of link i.
-fn check_link(limits: Limits, list: &[u32], i: u32) -> Checked
-    ensures { result ≡ checked_of (fault_in Area.Links limits list.now i) }
+#[tactic(auto, unfolding(crate::specs::Checks::link_found, model::specs::Answer::check, fault::specs::Fault::checked_of))]
+fn check_link(limits: Limits, list: &[u32], i: u32) -> Result<(), Fault>
+    ensures { result ≡ checked_of (link_found limits list.now i) }
 {
     if link_fits(link(list, limits.links_at, i)) {
-        return Checked::Sound;
+        return Ok(());
     }
-    Checked::Broken {
-        number: 7,
+    Err(Fault {
+        reason: Reason::WrongLink,
         record: i,
-    }
+    })
 }
 
 // The check of path i.
-fn check_path(limits: Limits, list: &[u32], i: u32) -> Checked
-    ensures { result ≡ checked_of (fault_in Area.Paths limits list.now i) }
+#[tactic(auto, unfolding(crate::specs::Checks::path_found, model::specs::Answer::check, fault::specs::Fault::checked_of))]
+fn check_path(limits: Limits, list: &[u32], i: u32) -> Result<(), Fault>
+    ensures { result ≡ checked_of (path_found limits list.now i) }
 {
     if path_fits(limits.pairs, path(list, limits.paths_at, i)) {
-        return Checked::Sound;
+        return Ok(());
     }
-    Checked::Broken {
-        number: 8,
+    Err(Fault {
+        reason: Reason::WrongPath,
         record: i,
-    }
+    })
 }
 
 // The check of pair i: its own fields, then that its links hold no second variable twice.
-fn check_pair(limits: Limits, list: &[u32], i: u32) -> Checked
-    ensures { result ≡ checked_of (fault_in Area.Pairs limits list.now i) }
+fn check_pair(limits: Limits, list: &[u32], i: u32) -> Result<(), Fault>
+    ensures { result ≡ checked_of (pair_found limits list.now i) }
 {
     let here = pair(list, i);
     if !pair_fits(limits, here, i) {
-        return Checked::Broken {
-            number: 9,
+        return Err(Fault {
+            reason: Reason::WrongPair,
             record: i,
-        };
+        });
     }
-    if links_once(list, limits.links_at, here.link, here.links) {
-        return Checked::Sound;
+    let end = here.link + here.links;
+    if !fault::are_distinct(
+        here.link,
+        end,
+        |j| Some(link(list, limits.links_at, j).second),
+    ) {
+        return Err(Fault {
+            reason: Reason::WrongPair,
+            record: i,
+        });
     }
-    Checked::Broken {
-        number: 9,
-        record: i,
-    }
-}
-
-// The check of one record of an area.
-fn check_record(limits: Limits, list: &[u32], area: Area, i: u32) -> Checked
-    ensures { result ≡ checked_of (fault_in area limits list.now i) }
-{
-    match area {
-        Area::Links => check_link(limits, list, i),
-        Area::Paths => check_path(limits, list, i),
-        Area::Pairs => check_pair(limits, list, i),
-    }
-}
-
-// The first fault along the n records of an area.
-fn check_area(limits: Limits, list: &[u32], area: Area, n: u32) -> Checked
-    ensures { result ≡ checked_of (first_of (fault_in area limits list.now) (up_to 0 n)) }
-{
-    let mut i = 0;
-    while i < n {
-        match check_record(limits, list, area, i) {
-            Checked::Broken { number, record } => {
-                return Checked::Broken { number, record };
-            }
-            Checked::Sound => {}
-        }
-        i += 1;
-    }
-    Checked::Sound
+    Ok(())
 }
 
 // The first fault of a correspondence between tables of so many states: the header's, or else along the links, the paths and the pairs.
-pub fn check(first: u32, second: u32, list: &[u32]) -> Checked
+pub fn check(first: u32, second: u32, list: &[u32]) -> Result<(), Fault>
     ensures { result ≡ checked_of (list_fault first second list.now) }
 {
     if !header_fits(list) {
-        return Checked::Broken {
-            number: 6,
+        return Err(Fault {
+            reason: Reason::WrongList,
             record: 0,
-        };
+        });
     }
     let limits = read_limits(first, second, list);
-    match check_area(limits, list, Area::Links, limits.links) {
-        Checked::Broken { number, record } => Checked::Broken { number, record },
-        Checked::Sound => match check_area(limits, list, Area::Paths, limits.paths) {
-            Checked::Broken { number, record } => Checked::Broken { number, record },
-            Checked::Sound => check_area(limits, list, Area::Pairs, limits.pairs),
-        },
-    }
+    fault::first_fault(limits.links, |i| check_link(limits, list, i))?;
+    fault::first_fault(limits.paths, |i| check_path(limits, list, i))?;
+    fault::first_fault(limits.pairs, |i| check_pair(limits, list, i))
 }
 
 // The first table's symbols: each variable is its own.
+#[tactic(auto, unfolding(model::specs::Answer::up_to))]
 pub fn own_symbols() -> [u32; 16]
     ensures { result ≡ up_to 0 16 }
 {
     [0, 1, 2, 3, 4, 5, 6, 7, 8, 9, 10, 11, 12, 13, 14, 15]
 }
 
+// Stays: that a range does not wrap is asked here, by `covers` of cover and by `keeps_links` of rules, in public clauses on two numbers.
 // The second table's symbols at the start of a pair's paths, where the links begin at a place: each variable is its linked partner, or
 // its own symbol if not linked. From the last link to the first, so that the first link of a variable counts.
 pub fn partners(list: &[u32], at: u32, first: u32, count: u32) -> [u32; 16]
@@ -419,10 +290,8 @@ pub fn partners(list: &[u32], at: u32, first: u32, count: u32) -> [u32; 16]
     let mut symbols = [
         16, 17, 18, 19, 20, 21, 22, 23, 24, 25, 26, 27, 28, 29, 30, 31,
     ];
-    let mut left = count;
-    while 0 < left {
-        left -= 1;
-        let here = link(list, at, first + left);
+    for i in (0..count).rev() {
+        let here = link(list, at, first + i);
         if here.second > 15 {
             continue;
         }

@@ -1,4 +1,3 @@
-pub mod Settling
-pub mod Searching
+pub mod Members
 pub mod Paper
 pub mod Unique

@@ -2,22 +2,10 @@
 -- contract, `Post`. Assumes nothing.
 use mathlib.Core.Path.{◌≡◌}
 use Rattle.model.proofs.Basics.{one_answer}
-use Rattle.rules.proofs.settle.Reads as settle
-use Rattle.rules.proofs.contradicts.Reads as contradicts
-use Rattle.rules.proofs.assured.Reads as assured
 use Rattle.rules.proofs.same_reads.Reads as same_reads
 use Rattle.rules.proofs.same_writes.Reads as same_writes
 use Rattle.rules.proofs.keeps_link.Reads as keeps_link
 use Rattle.rules.proofs.keeps_links.Reads as keeps_links
-
-pub settle_unique : (κs : _) (a : _) (r r' : _) (s s' : _) → settle.Post κs a r s → settle.Post κs a r' s' → r ≡ r'
-settle_unique κs a r r' s s' p q = one_answer p q
-
-pub contradicts_unique : (κs : _) (a : _) (r r' : _) (s s' : _) → contradicts.Post κs a r s → contradicts.Post κs a r' s' → r ≡ r'
-contradicts_unique κs a r r' s s' p q = one_answer p q
-
-pub assured_unique : (κs : _) (a : _) (r r' : _) (s s' : _) → assured.Post κs a r s → assured.Post κs a r' s' → r ≡ r'
-assured_unique κs a r r' s s' p q = one_answer p q
 
 pub same_reads_unique : (κs : _) (a : _) (r r' : _) (s s' : _) → same_reads.Post κs a r s → same_reads.Post κs a r' s' → r ≡ r'
 same_reads_unique κs a r r' s s' p q = one_answer p q

@@ -18,7 +18,7 @@ use Rattle.model.proofs.Basics.{and_left, and_right, and_both, each_port_lem, sa
 use Rattle.model.proofs.Runs.{reads_append}
 use Rattle.model.proofs.CheckedTable.{ReadsPort, checked_reset, checked_state}
 use Rattle.model.proofs.TrialRun.{next_state}
-use Rattle.run.specs.Held.{Need, per_port, held, held_at, act_h, act_all_h, writes_of, writes_in, spend_by, spend, spend_all, need_of, Ending, ending, taken, run_h}
+use Rattle.run.specs.Held.{Need, per_port, held, held_at, act_h, act_all_h, writes_of, writes_in, spend, spend_all, need_of, Ending, ending, taken, run_h}
 use Rattle.run.proofs.Ports.{port_get, port_set, every_port}
 
 -- The couples of two logs.
@@ -153,7 +153,7 @@ module _ (w : ℕ) (input buffer before : List ℕ) where
 -- What a need leaves of a port's words, and whether they suffice.
 
 spend_length : (n : Need) (a : Action) → length (spend n a).left ≡ length n.left
-unfolding spend spend_by
+unfolding spend
 spend_length n (assign v e) = refl
 spend_length n (read p v) = length-set n.left p (get_or n.left p 0 - 1)
 spend_length n (write p e) = refl
@@ -165,7 +165,7 @@ spend_all_length n (a ∷ l) = spend_all_length (spend n a) l ∙ spend_length n
 
 spend_left : (n : Need) (a : Action) (p : ℕ) → ReadsPort a → length n.left ≡ 4
     → get_or (spend n a).left p 0 ≡ get_or n.left p 0 - reads_in p (a ∷ [])
-unfolding spend spend_by reads_in tick
+unfolding spend reads_in tick
 spend_left n (assign v e) p ports four = omega arith
 spend_left n (read q v) p ports four = whether (eqb p q) refl
   where
@@ -190,7 +190,7 @@ spent_left n (a ∷ l) p ports four =
 
 -- The couples that a need counts.
 pub all_writes : (n : Need) (l : List Action) → (spend_all n l).writes ≡ n.writes + writes_in l
-unfolding spend_all writes_in spend spend_by writes_of
+unfolding spend_all writes_in spend writes_of
 all_writes n [] = omega arith
 all_writes n (a ∷ l) = omega (arith, one a, all_writes (spend n a) l)
   where
@@ -203,7 +203,7 @@ all_writes n (a ∷ l) = omega (arith, one a, all_writes (spend n a) l)
 
 spend_enough : (n : Need) (a : Action) → ReadsPort a → length n.left ≡ 4 → (spend n a).enough ≡ true
     → (n.enough ≡ true) × ((p : ℕ) → reads_in p (a ∷ []) ≤ get_or n.left p 0)
-unfolding spend spend_by reads_in tick
+unfolding spend reads_in tick
 spend_enough n (assign v e) ports four h = (h, λ p. omega arith)
 spend_enough n (read q v) ports four h = (and_left _ _ h, λ p. whether p (eqb p q) refl)
   where
@@ -216,7 +216,7 @@ spend_enough n (write q e) ports four h = (h, λ p. omega arith)
 
 enough_spend : (n : Need) (a : Action) → ReadsPort a → n.enough ≡ true → ((p : ℕ) → p < 4 → reads_in p (a ∷ []) ≤ get_or n.left p 0)
     → (spend n a).enough ≡ true
-unfolding spend spend_by reads_in tick
+unfolding spend reads_in tick
 enough_spend n (assign v e) ports h each = h
 enough_spend n (read q v) ports h each = and_both h (lt-ltb _ _ (rw (eq-eqb q q refl) at (each q ports)))
 enough_spend n (write q e) ports h each = h

@@ -1,9 +1,10 @@
 pub mod Ports
-pub mod Holding
+pub mod Records
 pub mod Input
-pub mod Choosing
 pub mod Spending
 pub mod Acting
-pub mod Walking
+pub mod Reasons
+pub mod Holding
 pub mod Answering
+pub mod Walking
 pub mod Unique

@@ -1,13 +1,14 @@
 -- What the answers of this crate stand for: the model's trial run as the code hands it over. Assumes nothing.
-use Rattle.std.specs.Prelude.{ℕ, zero, suc, ◌-◌, ◌/◌, ◌%◌, Bool, cond, List, [], ◌∷◌, length}
+use Rattle.std.specs.Prelude.{ℕ, ◌/◌, ◌%◌, List, [], ◌∷◌, length}
 use Rattle.model.specs.Answer.{number_of, Rule, is, so}
-use Rattle.model.specs.Word.{base, holds}
-use Rattle.model.specs.Expr.{read_at, tree_of, value}
-use Rattle.model.specs.Table.{kind_of}
 use Rattle.model.specs.Run as Model
-use Rattle.model.specs.Run.{couples, ports_right, zeros}
-use Rattle.table.specs.declared.StateRecord.{StateRecord}
+use Rattle.model.specs.Run.{couples, couple_words, ports_right, image_of, zeros, End}
+use Rattle.fault.specs.Fault.{reason_of, reason_as}
+use Rattle.fault.specs.declared.Reason.{Reason}
+use Rattle.fault.specs.declared.Fault.{Fault}
 use Rattle.run.specs.declared.Trial.{Trial}
+use Rattle.run.specs.declared.Ended.{Ended}
+use Rattle.run.specs.declared.hand.Hand.{Hand}
 use Rattle.run.specs.Held.{Ending}
 
 -- The model's answer with the code's fields.
@@ -27,39 +28,54 @@ answer_of t =
 unfoldable pub input_rules : List ℕ → List Rule
 input_rules input = is (length input % 2) 0 ∷ so (ports_right (couples input)) ∷ []
 
--- The edge that a state's record names at the variables: a step has its only one in the fourth word.
-unfoldable pub edge_by : ℕ → ℕ → ℕ → Bool → ℕ
-edge_by zero t f b = t
-edge_by (suc zero) t f b = t
-edge_by (suc (suc k)) t f b = cond b t f
-
--- Whether the test of a state's record is true at the variables.
-unfoldable pub test_of : List ℕ → List ℕ → StateRecord → Bool
-test_of code vs s =
-    holds base (kind_of (s.kind - 2)) (value base vs (tree_of (read_at code s.left))) (value base vs (tree_of (read_at code s.right)))
-
--- The number of the edge by which a state is left at the variables.
-unfoldable pub chosen_edge : List ℕ → List ℕ → StateRecord → ℕ
-chosen_edge code vs s = edge_by s.kind s.on_true s.on_false (test_of code vs s)
-
 -- A refusal: 0 in every field but these.
-unfoldable pub refused_of : ℕ → ℕ → ℕ → Trial
-refused_of n i r = record { number = n; image = i; «record» = r; state = 0; edges = 0; couples = 0; variables = zeros }
-
--- A run that ended, from what the engine holds.
-unfoldable pub ended_of : ℕ → ℕ → ℕ → ℕ → List ℕ → Trial
-ended_of n s edges written vs =
-    record { number = n; image = 0; «record» = 0; state = s; edges = edges; couples = written / 2; variables = vs }
-
--- The answer of an ending.
-unfoldable pub trial_h : Ending → Trial
-trial_h e =
+unfoldable pub refused_of : Fault → Trial
+refused_of f =
     record {
-      number = number_of e.reason;
+      number = number_of (reason_of f.reason);
+      image = image_of (reason_of f.reason);
+      «record» = f.«record»;
+      state = 0;
+      edges = 0;
+      couples = 0;
+      variables = zeros;
+    }
+
+-- The answer of a run that ended.
+unfoldable pub ended_of : Ended → Trial
+ended_of e =
+    record {
+      number = number_of (reason_of e.reason);
       image = 0;
       «record» = 0;
       state = e.state;
       edges = e.edges;
-      couples = e.all.written / 2;
+      couples = e.written / 2;
+      variables = e.variables;
+    }
+
+-- A run that ended with what it holds, why, in which state and after how many edges.
+abbrev pub ended_at : Hand → Reason → ℕ → ℕ → Ended
+ended_at h reason s done = record { reason = reason; state = s; edges = done; written = h.written; variables = h.variables }
+
+-- How the model's run ended, as the code hands it over.
+unfoldable pub end_as : End → Ended
+end_as e =
+    record {
+      reason = reason_as e.reason;
+      state = e.config.state;
+      edges = e.edges;
+      written = length (couple_words e.config.log);
+      variables = e.config.variables;
+    }
+
+-- An ending as the code hands it over.
+unfoldable pub ending_as : Ending → Ended
+ending_as e =
+    record {
+      reason = reason_as e.reason;
+      state = e.state;
+      edges = e.edges;
+      written = e.all.written;
       variables = e.all.variables;
     }

@@ -1,10 +1,12 @@
 -- What the engine holds of a run, in place of the log: the variables, the words that each port has left, and the buffer as written so
 -- far; and what actions and edges do to it. proofs/ says that this is the model's run. Assumes nothing.
-use Rattle.std.specs.Prelude.{ℕ, zero, suc, ◌+◌, ◌*◌, ◌-◌, ◌≡◌, Bool, true, cond, ◌&&◌, List, [], ◌∷◌, ◌++◌, map, leb, ltb, length, get_or, set, drop}
-use Rattle.model.specs.Answer.{Reason, end_stop, end_limit, end_input, end_room}
+use Rattle.std.specs.Prelude.{ℕ, zero, suc, ◌+◌, ◌*◌, ◌-◌, ◌≡◌, Bool, true, cond, ◌&&◌, List, [], ◌∷◌, ◌++◌, map, leb, ltb, length, get_or, set, drop, Option, Some, None}
+use Rattle.model.specs.Answer.{Reason, end_stop, end_limit, end_input, end_room, up_to}
 use Rattle.model.specs.Expr.{value}
-use Rattle.model.specs.Table.{Action, assign, read, write, Edge, Table}
+use Rattle.model.specs.Table.{Action, assign, read, write, Edge, Table, action_at}
 use Rattle.model.specs.Run.{reads, writes, couples, couple_words, Config, is_stop, side_at, edge_on}
+use Rattle.table.specs.declared.EdgeRecord.{EdgeRecord}
+use Rattle.run.specs.declared.hand.Hand.{Hand}
 
 -- What there is for each of the four ports, as a list.
 unfoldable pub per_port : {A : Type 0} → (ℕ → A) → List A
@@ -21,23 +23,18 @@ pub record Held : Type 0 where
 unfoldable pub held : List ℕ → List (List ℕ) → ℕ → List ℕ → Held
 held vs left n buffer = record { variables = vs; left = left; written = n; buffer = buffer }
 
--- The words of a port from a place of the input on.
+-- The words of a port from a couple of the input on.
 unfoldable pub left_from : List ℕ → ℕ → ℕ → List ℕ
-left_from input p at = writes p (couples (drop at input))
+left_from input p i = writes p (couples (drop (2 * i) input))
 
--- What the engine holds of these: the variables, for each port the place in the input from which its next word is looked for, and how
--- many words of the buffer are written.
-pub record Hand : Type 0 where
-  pub variables : List ℕ
-  pub next : List ℕ
-  pub written : ℕ
-
-abbrev pub hand : List ℕ → List ℕ → ℕ → Hand
-hand vs next n = record { variables = vs; next = next; written = n }
+-- What is held by the variables, for each port the couple of the input from which its next word is looked for, how many words of the
+-- buffer are written, and the lent buffer.
+unfoldable pub held_by : List ℕ → List ℕ → List ℕ → ℕ → List ℕ → Held
+held_by input vs next n out = held vs (per_port (λ p. left_from input p (get_or next p 0))) n out
 
 -- What a hand and the lent buffer hold.
-unfoldable pub held_of : List ℕ → Hand → List ℕ → Held
-held_of input h out = held h.variables (per_port (λ p. left_from input p (get_or h.next p 0))) h.written out
+abbrev pub held_of : List ℕ → Hand → List ℕ → Held
+held_of input h out = held_by input h.variables h.next h.written out
 
 -- What is held where the model's run stands.
 unfoldable pub held_at : List ℕ → List ℕ → Config → Held
@@ -65,6 +62,14 @@ unfoldable pub act_all_h : ℕ → List ℕ → List Action → Held → Held
 act_all_h w before [] h = h
 act_all_h w before (a ∷ rest) h = act_all_h w before rest (act_h w before a h)
 
+-- The actions of an edge's record, and the edge.
+
+abbrev pub actions_of : List ℕ → EdgeRecord → List Action
+actions_of image e = map (action_at image) (up_to e.first e.count)
+
+abbrev pub edge_of : List ℕ → EdgeRecord → Edge
+edge_of image e = record { target = e.target; actions = actions_of image e }
+
 -- How many couples an action writes.
 unfoldable pub writes_of : Action → ℕ
 writes_of (assign v e) = 0
@@ -86,22 +91,16 @@ pub record Need : Type 0 where
 abbrev pub needing : List ℕ → ℕ → Need
 needing left n = record { enough = true; left = left; writes = n }
 
--- One action's need, by the kind and the port of its record.
-unfoldable pub spend_by : Need → ℕ → ℕ → Need
-spend_by n zero p = n
-spend_by n (suc zero) p =
+-- One action's need, from the words that the ports have left.
+unfoldable pub spend : Need → Action → Need
+spend n (assign v e) = n
+spend n (read p v) =
     record {
       enough = n.enough && ltb 0 (get_or n.left p 0);
       left = set n.left p (get_or n.left p 0 - 1);
       writes = n.writes;
     }
-spend_by n (suc (suc k)) p = record { enough = n.enough; left = n.left; writes = n.writes + 1 }
-
--- One action's need, from the words that the ports have left.
-unfoldable pub spend : Need → Action → Need
-spend n (assign v e) = spend_by n 0 v
-spend n (read p v) = spend_by n 1 p
-spend n (write p e) = spend_by n 2 p
+spend n (write p e) = record { enough = n.enough; left = n.left; writes = n.writes + 1 }
 
 -- The need of actions in listed order.
 unfoldable pub spend_all : Need → List Action → Need
@@ -112,12 +111,12 @@ spend_all n (a ∷ rest) = spend_all (spend n a) rest
 unfoldable pub need_of : List ℕ → List Action → Need
 need_of left l = spend_all (needing left 0) l
 
--- A need as one number: the couples that are written, at most 16, or 17 where a word is lacking.
-unfoldable pub count_of : Need → ℕ
-count_of n = cond n.enough n.writes 17
+-- The couples that a need counts, or none where a word is lacking.
+unfoldable pub count_of : Need → Option ℕ
+count_of n = cond n.enough (Some n.writes) None
 
--- A need as the engine has it: that number, and what is left on each port unless a word is lacking.
-pub record Needed (n : Need) (count : ℕ) (left : List ℕ) : Type 0 where
+-- A need as the engine has it: that count, and what is left on each port unless a word is lacking.
+pub record Needed (n : Need) (count : Option ℕ) (left : List ℕ) : Type 0 where
   pub counts : count ≡ count_of n
   pub leaves : n.enough ≡ true → left ≡ n.left
 

@@ -1,31 +1,16 @@
--- Laws of the text that the program prints: lines of couples formed one after the other, the end behind them, and which of the two texts
--- an answer has. Assumes nothing.
-use Prim.Native.Nat.{ℕ, ◌+◌, ◌*◌, ◌/◌, ◌≤◌, ◌<◌}
-use mathlib.Core.Path.{◌≡◌, refl, sym, ◌∙◌, ap}
-use mathlib.Core.List.{List, ◌++◌}
+-- Laws of the text that the program prints: lines of couples formed one after the other, and the end behind them. Assumes nothing.
+use Prim.Native.Nat.{ℕ, zero, suc, ◌+◌, ◌*◌, ◌/◌, ◌≤◌, ◌<◌}
+use mathlib.Core.Path.{◌≡◌, refl, ◌∙◌, ap}
+use mathlib.Core.List.{List, [], ◌∷◌, ◌++◌}
 use native.Mathlib.Omega.{arith}
 use lib.ListN.{length, get_or, take, length-append}
-use borrow.Author.Tests.{lt-ltb, le-ltb, le-leb, lt-leb}
+use Rattle.std.specs.Simd.{first_chunks}
 use Rattle.files.specs.Files.{placed}
-use Rattle.files.specs.Lines.{three_of, couple_line, couple_lines, end_line}
+use Rattle.files.specs.Lines.{couple_line, couple_lines, end_line}
 use Rattle.files.proofs.Print.{Put, put_then, put_front}
 use Rattle.files.proofs.Storing.{Appended, length_placed}
 use Rattle.files.proofs.Lined.{length_couple, appended_put, Text, text_of_lem, lines_next, lines_all}
-use Rattle.model.specs.Word.{base}
-use Rattle.model.specs.Run.{zeros, trial, trial_buffer}
-use Rattle.run.specs.Answers.{answer_of}
-use Rattle.run.specs.declared.Trial.{Trial}
-use Rattle.run_table.specs.Text.{room_of, end_text, text_of, run_text}
-
--- How many words are taken, by the test that the code makes.
-
-pub taken_few : (couples room : ℕ) → couples ≤ room / 2 → (2 * couples ≡ room_of couples room) × (2 * couples ≤ room)
-unfolding room_of
-taken_few couples room h = (rw (le-leb couples (room / 2) h) refl, omega arith)
-
-pub taken_most : (couples room : ℕ) → room / 2 < couples → (room ≡ room_of couples room) × (room ≤ room)
-unfolding room_of
-taken_most couples room h = (rw (lt-leb couples (room / 2) h) refl, omega arith)
+use Rattle.run_table.specs.Text.{end_text}
 
 -- A text, first text₀ and now text, that holds the lines of the first i couples, of at most 23 bytes each.
 pub record Forming (words text₀ text : List ℕ) (at i : ℕ) : Type 0 where
@@ -37,6 +22,20 @@ pub record Forming (words text₀ text : List ℕ) (at i : ℕ) : Type 0 where
 pub forming_start : (words text : List ℕ) → Forming words text text 0 0
 unfolding couple_lines placed
 forming_start words text = record { little = omega arith; long = refl; so = (refl, refl) }
+
+-- The i-th two words are those from 2 i on.
+pub pair_at : (l : List ℕ) (k i : ℕ)
+    → i < k
+    → 2 * k ≤ length l
+    → (get_or (get_or (first_chunks 2 k l) i []) 0 0 ≡ get_or l (2 * i) 0) × (get_or (get_or (first_chunks 2 k l) i []) 1 0 ≡ get_or l (2 * i + 1) 0)
+pair_at l zero i h m = absurd (omega arith)
+pair_at [] (suc k) i h m = absurd (omega arith)
+pair_at (a ∷ []) (suc k) i h m = absurd (omega arith)
+pair_at (a ∷ b ∷ l) (suc k) zero h m = (refl, refl)
+pair_at (a ∷ b ∷ l) (suc k) (suc i) h m =
+    let e : 2 * suc i ≡ suc (suc (2 * i)) = omega arith in
+    let f : suc (suc (2 * i)) + 1 ≡ suc (suc (2 * i + 1)) = omega arith in
+    rw (e, f) (pair_at l k i (omega arith) (omega arith))
 
 -- One line more.
 pub forming_step : {words text₀ text : List ℕ} {at i : ℕ} {r : ℕ} {text' : List ℕ}
@@ -83,39 +82,3 @@ end_formed number state edges words text {at} {r} {text₁} p q h k =
     let all = put_then 0 (couple_lines words) (end_line number state edges) text (omega (arith, p.0), p.1.0) t in
     text_of_lem (couple_lines words ++ end_line number state edges) text all
     (omega (arith, length-append (couple_lines words) (end_line number state edges), p.0, p.1.1))
-
--- Which text an answer has.
-
-pub text_low : (t : Trial) (words text : List ℕ) {r : ℕ} {text' : List ℕ}
-    → t.number < 20
-    → Text (three_of t.number t.image t.«record») text r text'
-    → Text (text_of t words) text r text'
-unfolding text_of
-text_low t words text h p = rw (lt-ltb t.number 20 h) p
-
-pub text_high : (t : Trial) (words text : List ℕ) {r : ℕ} {text' : List ℕ}
-    → 20 ≤ t.number
-    → 23 < t.number
-    → Text (three_of t.number t.image t.«record») text r text'
-    → Text (text_of t words) text r text'
-unfolding text_of
-text_high t words text h k p = rw (le-ltb t.number 20 h, lt-ltb 23 t.number k) p
-
-pub text_end : (t : Trial) (words text : List ℕ) {r : ℕ} {text' : List ℕ}
-    → 20 ≤ t.number
-    → t.number ≤ 23
-    → Text (end_text t.number t.state t.edges words) text r text'
-    → Text (text_of t words) text r text'
-unfolding text_of
-text_end t words text h k p = rw (le-ltb t.number 20 h, le-ltb 23 t.number k) p
-
--- The text of a run, from what the run, the count of words and the report promise.
-pub run_formed : (table input : List ℕ) (limit : ℕ) (words : List ℕ) (text : List ℕ) (t : Trial) {words' : List ℕ} {n r : ℕ} {text' : List ℕ}
-    → t ≡ answer_of (trial base zeros table input limit words)
-    → words' ≡ trial_buffer base zeros table input limit words
-    → n ≡ room_of t.couples (length words')
-    → Text (text_of t (take n words')) text r text'
-    → Text (run_text table input limit words) text r text'
-unfolding run_text
-run_formed table input limit words text t {words'} {n} e f g p =
-    rw (sym e, sym f, sym g) p

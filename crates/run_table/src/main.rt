@@ -7,11 +7,10 @@
 ghost use Rattle.std.specs.Prelude.{◌≡◌, ◌+◌, ◌*◌, ◌≤◌, length};
 ghost use Rattle.files.specs.Files.{placed};
 ghost use Rattle.files.specs.Lines.{Front, three_of, couple_lines};
-ghost use Rattle.run_table.specs.Text.{room_of, end_text, text_of, run_text};
+ghost use Rattle.run_table.specs.Text.{end_text, text_of, run_text};
 
-use files::Decimal;
 use run::Trial;
-use shell::{Argument, File};
+use shell::Said;
 use std::rt::Env;
 
 // The limit on edges where none is given.
@@ -20,29 +19,14 @@ const LIMIT: u32 = 10000;
 // The most words of room, and the room where none is given.
 const ROOM: u32 = 4096;
 
-// The number that an argument writes, or another where there is no such argument.
-fn setting(rt: &impl Env, i: usize, count: usize, otherwise: u32) -> Decimal {
+// The number that an argument writes, if it writes one, or another where there is no such argument.
+fn setting(rt: &impl Env, i: usize, count: usize, otherwise: u32) -> Option<u32> {
     if count <= i {
-        return Decimal::Word(otherwise);
+        return Some(otherwise);
     }
-    let mut text = shell::buffer();
-    let taken = shell::take_argument(rt, i, &mut text);
-    match taken {
-        Argument::Unfit => Decimal::NotOne,
-        Argument::Text(n) => files::number(&text[..n]),
-    }
-}
-
-// How many words of the room the couples take: no more than there are.
-fn taken(couples: usize, room: usize) -> usize
-    ensures value { result ≡ room_of couples room }
-    ensures upper_bound { result ≤ room }
-{
-    if couples <= room / 2 {
-        2 * couples
-    } else {
-        room
-    }
+    let mut text = shell::zeros();
+    let n = shell::take_argument(rt, i, &mut text)?;
+    files::number(&text[..n])
 }
 
 // Forms the lines of couples in front of a text, and gives how many bytes that took: at most 23 for each.
@@ -52,12 +36,10 @@ fn couple_lines(words: &[u32], text: &mut [u8]) -> usize
     ensures text_after { text.new ≡ placed 0 (couple_lines words.now) text.old }
     ensures upper_bound { result ≤ 12 * length words.now }
 {
-    let n = words.len() / 2;
+    let (couples, _) = words.as_chunks::<2>();
     let mut at = 0;
-    let mut i = 0;
-    while i < n {
-        at = files::couple_line(words[2 * i], words[2 * i + 1], at, text);
-        i += 1;
+    for couple in couples {
+        at = files::couple_line(couple[0], couple[1], at, text);
     }
     at
 }
@@ -84,23 +66,23 @@ fn refusal_text(number: u32, image: u32, record: u32, text: &mut [u8]) -> usize
 }
 
 // Forms what a run prints by its answer and the words of its couples: 20 to 23 are the ends, any other number is a refusal.
+#[tactic(auto, unfolding(crate::specs::Text::text_of))]
 fn report(trial: Trial, words: &[u32], text: &mut [u8]) -> usize
     requires { 12 * length words.now + 37 ≤ length text.old }
     ensures value { result ≡ length (text_of trial words.now) }
     ensures text_after { text.new ≡ placed 0 (text_of trial words.now) text.old }
     ensures front { Front result text.new }
 {
-    let number = trial.number;
-    if number < 20 {
-        return refusal_text(number, trial.image, trial.record, text);
+    // Stays: the answer is the paper's numbers.
+    if (20..=23).contains(&trial.number) {
+        end_text(trial.number, trial.state, trial.edges, words, text)
+    } else {
+        refusal_text(trial.number, trial.image, trial.record, text)
     }
-    if 23 < number {
-        return refusal_text(number, trial.image, trial.record, text);
-    }
-    end_text(number, trial.state, trial.edges, words, text)
 }
 
 // Runs a table on words in a room, forms what is printed in front of a text, and gives how many bytes that took.
+#[tactic(auto, unfolding(crate::specs::Text::run_text, crate::specs::Text::room_of))]
 fn run_text(table: &[u32], input: &[u32], limit: u32, words: &mut [u32], text: &mut [u8]) -> usize
     requires { 12 * length words.old + 37 ≤ length text.old }
     ensures value { result ≡ length (run_text table.now input.now limit words.old) }
@@ -108,60 +90,38 @@ fn run_text(table: &[u32], input: &[u32], limit: u32, words: &mut [u32], text: &
     ensures front { Front result text.new }
 {
     let trial = run::run(table, input, limit, words);
-    let n = taken(trial.couples, words.len());
+    let n = trial.couples.saturating_mul(2).min(words.len());
     report(trial, &words[..n], text)
 }
 
-// The room: as many words as a run is ever lent.
-fn whole_room() -> [u32; 4096]
-    ensures { 4096 ≡ length result }
-{
-    [0; 4096]
-}
-
-// Runs a table on words and prints what the run says.
-fn run_words(rt: &HostRuntime, table: &[u32], input: &[u32], limit: u32, room: usize)
+// Runs a table on words in a room of at most as many words as a run is ever lent, and prints what the run says.
+fn run_words(
+    rt: &HostRuntime,
+    table: &[u32],
+    input: &[u32],
+    limit: u32,
+    room: usize,
+) -> Result<(), Said>
     requires { room ≤ 4096 }
 {
-    let mut words = whole_room();
-    let mut text = shell::large_buffer();
+    let mut words = [0u32; 4096];
+    let mut text = shell::zeros::<65536>();
     let n = run_text(table, input, limit, &mut words[..room], &mut text);
-    shell::print(rt, &text[..n]);
+    shell::print(rt, &text[..n])
 }
 
 // Reads the two files and runs the table of the first on the words of the second.
-fn run_files(rt: &HostRuntime, limit: u32, room: usize)
+fn run_files(rt: &HostRuntime, limit: u32, room: usize) -> Result<(), Said>
     requires { room ≤ 4096 }
 {
-    let mut bytes = shell::large_buffer();
+    let mut bytes = shell::zeros::<65536>();
     let mut table = [0u32; 4298];
     let mut input = [0u32; 8192];
-    let first = shell::read_argument(rt, 1, &mut bytes);
-    let File::Bytes(n) = first else {
-        return;
-    };
+    let n = shell::read_argument(rt, 1, &mut bytes)?;
     let t = files::image(&bytes[..n], &mut table);
-    let second = shell::read_argument(rt, 2, &mut bytes);
-    let File::Bytes(m) = second else {
-        return;
-    };
+    let m = shell::read_argument(rt, 2, &mut bytes)?;
     let i = files::input(&bytes[..m], &mut input);
-    run_words(rt, &table[..t], &input[..i], limit, room);
-}
-
-// Runs with a limit, if the room is right.
-fn run_within(rt: &HostRuntime, limit: u32, count: usize) {
-    let taken = setting(rt, 4, count, ROOM);
-    match taken {
-        Decimal::NotOne => shell::say(rt, b"ROOM must be a number of words, 0 to 4096\n"),
-        Decimal::Word(room) => {
-            if ROOM < room {
-                shell::say(rt, b"ROOM must be a number of words, 0 to 4096\n");
-                return;
-            }
-            run_files(rt, limit, room as usize);
-        }
-    }
+    run_words(rt, &table[..t], &input[..i], limit, room)
 }
 
 fn main(rt: HostRuntime) {
@@ -180,9 +140,13 @@ fn main(rt: HostRuntime) {
         );
         return;
     }
-    let taken = setting(&rt, 3, count, LIMIT);
-    match taken {
-        Decimal::NotOne => shell::say(&rt, b"LIMIT must be a number of edges, 0 to 4294967295\n"),
-        Decimal::Word(limit) => run_within(&rt, limit, count),
-    }
+    let Some(limit) = setting(&rt, 3, count, LIMIT) else {
+        shell::say(&rt, b"LIMIT must be a number of edges, 0 to 4294967295\n");
+        return;
+    };
+    let Some(room) = setting(&rt, 4, count, ROOM).filter(|room| *room <= ROOM) else {
+        shell::say(&rt, b"ROOM must be a number of words, 0 to 4096\n");
+        return;
+    };
+    let _ = run_files(&rt, limit, room as usize);
 }

@@ -1,10 +1,7 @@
--- Two arrays of zeros that meet one contract are equal. What is read, taken or printed no contract can say. Assumes nothing.
+-- Two arrays of zeros that meet one contract are equal, of whatever length. What is read, taken or printed no contract can say. Assumes
+-- nothing.
 use Rattle.std.proofs.Common.{◌≡◌, sym, ◌∙◌}
-use Rattle.shell.proofs.buffer.Reads as buffer
-use Rattle.shell.proofs.large_buffer.Reads as large_buffer
+use Rattle.shell.proofs.zeros.Reads as zeros
 
-pub buffer_unique : (κs : _) (a : _) (r r' : _) (s s' : _) → buffer.Post κs a r s → buffer.Post κs a r' s' → r ≡ r'
-buffer_unique κs a r r' s s' p q = p.1 ∙ sym q.1
-
-pub large_buffer_unique : (κs : _) (a : _) (r r' : _) (s s' : _) → large_buffer.Post κs a r s → large_buffer.Post κs a r' s' → r ≡ r'
-large_buffer_unique κs a r r' s s' p q = p.1 ∙ sym q.1
+pub zeros_unique : (g : _) (k : _) (κs : _) (a : _) (r r' : _) (s s' : _) → zeros.Post g k κs a r s → zeros.Post g k κs a r' s' → r ≡ r'
+zeros_unique g k κs a r r' s s' p q = p.1 ∙ sym q.1

@@ -4,8 +4,7 @@
 // be any bytes.
 #![tactic(auto)]
 
-ghost use Rattle.std.specs.Prelude.{◌≡◌, ◌≤◌, IfOk, length, replicate};
-ghost use Rattle.shell.specs.Shell.{ReadWithin, TextWithin};
+ghost use Rattle.std.specs.Prelude.{◌≡◌, ◌≤◌, IfOk, IfSome, length, replicate};
 
 use arrayvec::ArrayString;
 use std::env::FillError;
@@ -14,62 +13,32 @@ use std::io::{Print, Read};
 use std::rt::Env;
 use std::{fs, io};
 
-// What reading a file gives: how many bytes were read, or that it cannot be read.
-#[derive(Clone, Copy)]
-pub enum File {
-    Bytes(usize),
-    Unreadable,
-}
+// That something could not be done, as a line on standard error says.
+#[derive(Clone, Copy, PartialEq, Eq)]
+pub struct Said;
 
-// What taking an argument gives: how many bytes it has, or that it is missing or longer than a path may be.
-#[derive(Clone, Copy)]
-pub enum Argument {
-    Text(usize),
-    Unfit,
-}
-
-// 4,096 zeros, which hold any path.
-pub fn buffer() -> [u8; 4096]
-    ensures size { 4096 ≡ length result }
-    ensures zeros { result ≡ replicate 4096 0 }
+// As many zeros as are asked for: 4,096 hold any path, and 65,536 any file that is read and any text that is printed.
+pub fn zeros<const N: usize>() -> [u8; N]
+    ensures size { N ≡ length result }
+    ensures zeros { result ≡ replicate N 0 }
 {
-    [0; 4096]
-}
-
-// 65,536 zeros, which hold any file that is read and any text that is printed.
-pub fn large_buffer() -> [u8; 65536]
-    ensures size { 65536 ≡ length result }
-    ensures zeros { result ≡ replicate 65536 0 }
-{
-    [0; 65536]
+    [0; N]
 }
 
 // How many arguments the program was started with, its own name among them.
 pub fn argument_count(rt: &impl Env) -> usize {
-    let mut text = buffer();
-    for i in 0..usize::MAX {
-        if let Err(FillError::NotPresent) = rt.arg(i, &mut text) {
-            return i;
-        }
-    }
-    usize::MAX
+    let mut text = zeros::<4096>();
+    (0..usize::MAX)
+        .find(|i| matches!(rt.arg(*i, &mut text), Err(FillError::NotPresent)))
+        .unwrap_or(usize::MAX)
 }
 
-// Takes an argument of the program, counted from 1, into the front of a buffer.
-pub fn take_argument(rt: &impl Env, i: usize, text: &mut [u8; 4096]) -> Argument
-    ensures { TextWithin result (length text.new) }
+// Takes an argument of the program, counted from 1, into the front of a buffer, and gives how many bytes it has; none where it is missing or
+// longer than a path may be.
+pub fn take_argument(rt: &impl Env, i: usize, text: &mut [u8; 4096]) -> Option<usize>
+    ensures { IfSome result (λ n. n ≤ length text.new) }
 {
-    match rt.arg(i, text) {
-        Ok(n) => Argument::Text(n),
-        Err(_) => Argument::Unfit,
-    }
-}
-
-// Reads once into the front of a buffer: how many bytes came, or why the read failed.
-fn read_once(file: &mut impl Read, bytes: &mut [u8]) -> io::Result<usize>
-    ensures { IfOk result (λ n. n ≤ length bytes.new) }
-{
-    file.read(bytes)
+    rt.arg(i, text).ok()
 }
 
 // Reads into the front of a buffer until it is full or the file ends.
@@ -78,7 +47,7 @@ fn read_all(file: &mut impl Read, bytes: &mut [u8]) -> io::Result<usize>
 {
     let mut at = 0;
     while at < bytes.len() {
-        let n = read_once(file, &mut bytes[at..])?;
+        let n = file.read(&mut bytes[at..])?;
         if n == 0 {
             return Ok(at);
         }
@@ -87,6 +56,7 @@ fn read_all(file: &mut impl Read, bytes: &mut [u8]) -> io::Result<usize>
     Ok(at)
 }
 
+// Stays: std prints the system's words for an error's number alone, and others for an `io::ErrorKind`.
 // Linux's numbers of errors: a name that is no text, a name that is too long, and an argument that is missing.
 const NO_TEXT: i32 = 84;
 
@@ -96,10 +66,8 @@ const MISSING: i32 = 22;
 
 // Opens the file of a path. A path is text: one that is not UTF-8 is refused.
 fn open(rt: &HostRuntime, path: &[u8]) -> io::Result<fs::File> {
-    match str::from_utf8(path) {
-        Ok(text) => fs::File::open(rt, text),
-        Err(_) => Err(io::Error::from_raw_os_error(NO_TEXT)),
-    }
+    let text = str::from_utf8(path).map_err(|_| io::Error::from_raw_os_error(NO_TEXT))?;
+    fs::File::open(rt, text)
 }
 
 // Opens the file of a path and reads it into the front of a buffer.
@@ -111,33 +79,27 @@ fn read_path(rt: &HostRuntime, path: &[u8], bytes: &mut [u8]) -> io::Result<usiz
 }
 
 // Says on standard error what cannot be done with a file, and why, in the system's words: std writes the error's number behind them.
-fn say_why(rt: &HostRuntime, what: &[u8], name: &[u8], error: &io::Error) {
+fn say_why(rt: &HostRuntime, what: &[u8], name: &[u8], error: &io::Error) -> Said {
     let mut text = ArrayString::<300>::new();
     let _ = write!(text, "{error}");
     let said = text.as_str();
-    let why = match said.split_once(" (os error ") {
-        Some((words, _)) => words,
-        None => said,
-    };
+    let why = said
+        .split_once(" (os error ")
+        .map_or(said, |(words, _)| words);
     say(rt, what);
     say(rt, name);
     say(rt, b": ");
     say(rt, why.as_bytes());
     say(rt, b"\n");
+    Said
 }
 
 // Reads a file into the front of a buffer, as much of it as the buffer holds. Where it cannot be opened or read, a line on standard error
 // says so.
-pub fn read_file(rt: &HostRuntime, path: &[u8], bytes: &mut [u8]) -> File
-    ensures { ReadWithin result (length bytes.new) }
+pub fn read_file(rt: &HostRuntime, path: &[u8], bytes: &mut [u8]) -> Result<usize, Said>
+    ensures { IfOk result (λ n. n ≤ length bytes.new) }
 {
-    match read_path(rt, path, bytes) {
-        Ok(n) => File::Bytes(n),
-        Err(error) => {
-            say_why(rt, b"cannot read ", path, &error);
-            File::Unreadable
-        }
-    }
+    read_path(rt, path, bytes).map_err(|error| say_why(rt, b"cannot read ", path, &error))
 }
 
 // Why an argument cannot be taken, as an error of the system.
@@ -149,33 +111,20 @@ fn unfit(why: FillError) -> io::Error {
 }
 
 // Reads the file that an argument names, counted from 1, into the front of a buffer, as `read_file` does.
-pub fn read_argument(rt: &HostRuntime, i: usize, bytes: &mut [u8]) -> File
-    ensures { ReadWithin result (length bytes.new) }
+pub fn read_argument(rt: &HostRuntime, i: usize, bytes: &mut [u8]) -> Result<usize, Said>
+    ensures { IfOk result (λ n. n ≤ length bytes.new) }
 {
-    let mut path = buffer();
-    match rt.arg(i, &mut path) {
-        Err(why) => {
-            say_why(
-                rt,
-                b"cannot read ",
-                b"a file with so long a name",
-                &unfit(why),
-            );
-            File::Unreadable
-        }
-        Ok(n) => read_file(rt, &path[..n], bytes),
-    }
+    let mut path = zeros::<4096>();
+    let n = rt.arg(i, &mut path).map_err(|why| {
+        let name = b"a file with so long a name";
+        say_why(rt, b"cannot read ", name, &unfit(why))
+    })?;
+    read_file(rt, &path[..n], bytes)
 }
 
-// Writes a text to standard output, and tells whether it did. Where it cannot be written, a line on standard error says so.
-pub fn print(rt: &HostRuntime, text: &[u8]) -> bool {
-    match rt.write_all(text) {
-        Ok(()) => true,
-        Err(error) => {
-            say_why(rt, b"cannot write ", b"standard output", &error);
-            false
-        }
-    }
+// Writes a text to standard output. Where it cannot be written, a line on standard error says so.
+pub fn print(rt: &HostRuntime, text: &[u8]) -> Result<(), Said> {
+    rt.write_all(text).map_err(|error| say_why(rt, b"cannot write ", b"standard output", &error))
 }
 
 // Writes a message to standard error.

@@ -1,167 +1,193 @@
--- Along the actions of an edge: what is left of them makes of what is held what all make of what was held before the edge.
--- Assumes nothing.
-use Prim.Native.Nat.{ℕ, zero, suc, ◌+◌, ◌-◌, ◌≤◌, ◌<◌}
+-- What one action makes of a side, by its kind; along the actions of an edge, what is left of them makes of the side what all make of the
+-- side before the edge; and the ports of a side cleared in turn. Assumes nothing.
+use Prim.Native.Nat.{ℕ, ◌+◌, ◌-◌, ◌≤◌, ◌<◌}
 use mathlib.Core.Path.{◌≡◌, refl, sym, ◌∙◌, ap}
-use mathlib.Core.Bool.{Bool, true, false}
-use mathlib.Core.List.{List, map}
+use mathlib.Core.Bool.{Bool, true, false, cond}
+use mathlib.Core.List.{List, [], ◌∷◌, ◌++◌, map, append-nil}
 use native.Mathlib.Omega.{arith}
-use lib.Dec.{ltb}
-use lib.ListN.{length, set}
-use borrow.Author.Tests.{lt-ltb, le-ltb}
+use lib.ListN.{length, get_or, set, take, drop, replicate, length-map, length-take, length-drop, length-append, drop_of_length-le}
+use lib.Seq.{take_all}
+use Rattle.std.specs.Prelude.{Result, Ok, Err}
+use Rattle.std.proofs.lemmas.List.{get_or_default}
+use Rattle.std.proofs.lemmas.List.Edits.{map_over_more}
 use Rattle.model.specs.Expr.{read_at, is_parsed, tree_of}
-use Rattle.model.specs.Table.{assign, read, write, action_of}
-use Rattle.model.specs.Sum.{too_large}
 use Rattle.model.specs.Path.{read_symbol, room_on}
 use Rattle.model.proofs.Following.{room_facts}
 use Rattle.key.specs.Key.{symbol_of}
-use Rattle.sum.specs.declared.Added.{Added}
-use Rattle.sum.specs.declared.Size.TheVariants.{Fits, TooLarge}
-use Rattle.sum.specs.Packed.{terms_of, symbol_k, added_of}
+use Rattle.sum.specs.declared.Sum.{Sum}
+use Rattle.sum.specs.declared.TooLarge.{TooLarge}
+use Rattle.sum.specs.Packed.{symbol_k, as_sum, added_of}
+use Rattle.env.specs.declared.Env.{Env}
 use Rattle.env.specs.Env.{with_variable}
-use Rattle.fault.proofs.Along.{up_to_cons, up_to_none}
+use Rattle.table.specs.declared.decoded.Action.{Action}
+use Rattle.table.specs.declared.decoded.Action.TheVariants.{Assign, Read, Write}
+use Rattle.table.specs.Decoded.{action_as, action_meant}
 use Rattle.table.specs.declared.ActionRecord.{ActionRecord}
 use Rattle.table.specs.Checks.{action_record}
-use Rattle.side.specs.Parts.{Held, count_on, one_more, with_write, writes_as, held_as}
-use Rattle.side.specs.Following.{AllParsed, whole, stuck, after_sum, after, formed_on, with_env, with_read, with_given, action_k, actions_k, action_in, actions_in}
-use Rattle.side.proofs.Forming.{added_large, added_fits, formed_few}
+use Rattle.fault.proofs.Along.{up_to_cons, up_to_none}
+use Rattle.side.specs.declared.Side.{Side}
+use Rattle.side.specs.Parts.{Port, count_on, one_more, no_port, with_sum, wrote_on, with_write, with_sum_of, with_read, with_given}
+use Rattle.side.specs.Following.{Reached, whole, stuck, after_sum, after, formed_on, action_k, actions_k, actions_in, Parsed}
+use Rattle.side.proofs.Forming.{sum_stuck, sum_goes}
 
--- Room on a port.
+-- The first i ports have no sums.
+abbrev pub Cleared : List Port → List Port → ℕ → Type 0
+Cleared xs ys i = ys ≡ map (λ w. no_port) (take i xs) ++ drop i xs
 
-pub room_none : (p n : ℕ) → 4 ≤ p → false ≡ room_on p n
-unfolding room_on
-room_none p n h = rw (le-ltb p 4 h)
+-- One port more.
+pub cleared_more : (xs ys : List Port) (i : ℕ) {w : Port} → Cleared xs ys i → i < length xs → w.items ≡ [] → Cleared xs (set ys i w) (i + 1)
+cleared_more xs ys i v h e =
+    let n = ap length v in
+    let long : i < length ys =
+    omega (arith, n, length-append (map (λ (w : Port). no_port) (take i xs)) (drop i xs), length-map (take i xs) (λ (w : Port). no_port), length-take i xs, length-drop i xs) in
+    (λ j. set ys i (record { items = e j })) ∙ map_over_more (λ (w : Port). no_port) xs ys i (get_or ys i no_port) h v (get_or_default ys i _ _ long)
 
-pub room_some : (p n : ℕ) → p < 4 → ltb n 16 ≡ room_on p n
-unfolding room_on
-room_some p n h = rw (lt-ltb p 4 h)
+-- All four ports.
+pub cleared_all : (xs ys : List Port) (i : ℕ) → Cleared xs ys i → length xs ≡ 4 → 4 ≤ i → ys ≡ replicate 4 no_port
+cleared_all xs ys i v h k =
+    let m : length xs ≤ i = omega (arith, h, k) in
+    v ∙ (λ j. map (λ (w : Port). no_port) (take_all i xs m j) ++ drop_of_length-le xs m j)
+    ∙ append-nil (map (λ (w : Port). no_port) xs) ∙ each xs h
+  where
+    each : (l : List Port) → length l ≡ 4 → map (λ w. no_port) l ≡ replicate 4 no_port
+    each [] h = absurd (omega arith)
+    each (a ∷ []) h = absurd (omega arith)
+    each (a ∷ (b ∷ [])) h = absurd (omega arith)
+    each (a ∷ (b ∷ (c ∷ []))) h = absurd (omega arith)
+    each (a ∷ (b ∷ (c ∷ (d ∷ [])))) h = refl
+    each (a ∷ (b ∷ (c ∷ (d ∷ (e ∷ l))))) h = absurd (omega arith)
 
-pub room_both : {p n m : ℕ} {b : Bool} → b ≡ room_on p n → n ≡ m → b ≡ true → (p < 4) × (m < 16)
-room_both {p} {n} {m} {b} asked counted h =
-    let (port, few) = room_facts p n (sym asked ∙ h) in
-    (port, omega arith)
+-- Room on a port says which port it is, and that it is not full.
+pub room_both : {p n : ℕ} {b : Bool} → b ≡ room_on p n → b ≡ true → (p < 4) × (n < 16)
+room_both {p} {n} asked h = room_facts p n (sym asked ∙ h)
 
--- The actions from i on, `left` of them, are still to be done.
-pub record Moving (image code : List ℕ) (at first count : ℕ) (start held : Held) (i left : ℕ) : Type 0 where
-  pub low : first ≤ i
-  pub place : i + left ≡ first + count
-  pub rest : actions_k start.env (actions_in image code at i left) held ≡ actions_k start.env (actions_in image code at first count) start
+-- A port of the four is the same whatever stands past the end.
+port_any : (ws : List Port) (p n : ℕ) {b : Bool} (w : Port) → length ws ≡ 4 → b ≡ room_on p n → b ≡ true → get_or ws p w ≡ get_or ws p no_port
+port_any ws p n w four asked h = get_or_default ws p _ _ (omega (arith, four, (room_both asked h).0))
 
-module _ (image code : List ℕ) (at first count : ℕ) (start : Held) where
-  pub move_start : Moving image code at first count start start first count
-  move_start = record { low = omega arith; place = refl; rest = refl }
+-- A port that is not full has fewer than 16 sums.
+pub port_room : (ws : List Port) (p : ℕ) {n : ℕ} {b : Bool} (w : Port) → length ws ≡ 4 → n ≡ wrote_on ws p → b ≡ room_on p n → b ≡ true
+    → length (get_or ws p w).items < 16
+unfolding wrote_on
+port_room ws p w four counted asked h =
+    let e = ap (λ (x : Port). length x.items) (port_any ws p _ w four asked h) in
+    omega (arith, e, counted, (room_both asked h).1)
 
-  turn : (held : Held) (i left : ℕ) → 0 < left → actions_k start.env (actions_in image code at i left) held
-      ≡ after (action_k start.env (action_in code (action_record image at i)) held) (λ g. g) (actions_k start.env (actions_in image code at (i + 1) (left - 1)))
-  unfolding actions_k actions_in
-  turn held i left h =
-      ap (λ l. actions_k start.env (map (λ j. action_in code (action_record image at j)) l) held) (up_to_cons i left (left - 1) (omega arith))
+module _ (code : List ℕ) (before : Env) (d : Side) {a : Action} where
+  -- An assign.
+  module _ {v e : ℕ} (is : a ≡ Assign v e) where
+    pub assign_parsed : Parsed code a → is_parsed (read_at code e) ≡ true
+    unfolding Parsed
+    assign_parsed h = rw is at h
 
-  module _ (held : Held) (i left : ℕ) (v : Moving image code at first count start held i left) (more : 0 < left) where
-    -- The expression of the next action, unless it is a read.
-    pub move_parsed : {r : ActionRecord} → r ≡ action_record image at i → AllParsed image code at first count → (r.kind ≡ 1 → ⊥) → is_parsed (read_at code r.b) ≡ true
-    move_parsed {r} e all other =
-        let p : i + left ≡ first + count = v.place in
-        ap (λ x. is_parsed (read_at code x.b)) e ∙ all i v.low (omega arith) (λ k. other (ap (λ x. x.kind) e ∙ k))
+    assigns : action_k before (action_meant code a) d ≡ after_sum (formed_on before (tree_of (read_at code e))) d (λ s. whole (with_sum_of d v s))
+    unfolding action_k action_meant
+    assigns = rw is refl
 
-    pub move_step : {r : ActionRecord} {held' : Held} → r ≡ action_record image at i → action_k start.env (action_in code r) held ≡ whole held' → Moving image code at first count start held' (i + 1) (left - 1)
-    unfolding after
-    move_step {r} e d =
-        let o = ap (λ x. action_k start.env (action_in code x) held) (sym e) ∙ d in
-        let p : i + left ≡ first + count = v.place in
-        record {
-          low = omega (arith, v.low);
-          place = omega arith;
-          rest = sym (turn held i left more ∙ ap (λ x. after x (λ g. g) (actions_k start.env (actions_in image code at (i + 1) (left - 1)))) o) ∙ v.rest;
-        }
+    module _ {x : Result Sum TooLarge} (formed : x ≡ added_of (formed_on before (tree_of (read_at code e)))) where
+      pub assign_large : {t : TooLarge} → x ≡ Err t → stuck d ≡ action_k before (action_meant code a) d
+      assign_large h = sym (assigns ∙ sum_stuck _ d _ formed h)
 
-    pub move_stuck : {r : ActionRecord} → r ≡ action_record image at i → action_k start.env (action_in code r) held ≡ stuck held → stuck held ≡ actions_k start.env (actions_in image code at first count) start
-    unfolding after
-    move_stuck {r} e d =
-        let o = ap (λ x. action_k start.env (action_in code x) held) (sym e) ∙ d in
-        sym (turn held i left more ∙ ap (λ x. after x (λ g. g) (actions_k start.env (actions_in image code at (i + 1) (left - 1)))) o) ∙ v.rest
-
-  pub move_end : (held : Held) (i left : ℕ) → Moving image code at first count start held i left → left ≤ 0 → whole held ≡ actions_k start.env (actions_in image code at first count) start
-  unfolding actions_k actions_in
-  move_end held i left v h =
-      let e = ap (λ l. actions_k start.env (map (λ j. action_in code (action_record image at j)) l) held) (up_to_none i left (omega arith)) in
-      sym e ∙ v.rest
-
--- One action, by its kind.
-
--- A symbol's sum is one term.
-pub one_symbol : (m : ℕ) → length (symbol_k m) ≤ 16
-unfolding symbol_k
-one_symbol m = omega arith
-
-module _ (before code : List ℕ) (r : ActionRecord) (env reads counts written : List ℕ) where
-  is_read : r.kind ≡ 1 → action_in code r ≡ read r.a r.b
-  unfolding action_in action_of
-  is_read h = rw h
-
-  is_assign : r.kind ≡ 0 → action_in code r ≡ assign r.a (tree_of (read_at code r.b))
-  unfolding action_in action_of
-  is_assign h = rw h
-
-  is_write : (r.kind ≡ 1 → ⊥) → (r.kind ≡ 0 → ⊥) → action_in code r ≡ write r.a (tree_of (read_at code r.b))
-  unfolding action_in action_of
-  is_write m n = by r.kind m n
-    where
-      by : (k : ℕ) → (k ≡ 1 → ⊥) → (k ≡ 0 → ⊥) → action_of code k r.a r.b ≡ write r.a (tree_of (read_at code r.b))
-      by zero m n = absurd (n refl)
-      by (suc zero) m n = absurd (m refl)
-      by (suc (suc k)) m n = refl
+      pub assign_done : {s : Sum} {env : Env} → x ≡ Ok s → env ≡ with_variable d.env v s
+          → whole (record { state = d.state; conditions = d.conditions; env = env; reads = d.reads; writes = d.writes }) ≡ action_k before (action_meant code a) d
+      unfolding with_sum_of
+      assign_done h k =
+          (λ i. whole (record { state = d.state; conditions = d.conditions; env = k i; reads = d.reads; writes = d.writes }))
+          ∙ sym (assigns ∙ sum_goes _ d _ formed h)
 
   -- A read.
+  module _ {p v : ℕ} (is : a ≡ Read p v) where
+    takes : action_k before (action_meant code a) d ≡ cond (room_on p (count_on d.reads p)) (whole (with_read d p v)) (stuck d)
+    unfolding action_k action_meant
+    takes = rw is refl
 
-  module _ (is : r.kind ≡ 1) {n : ℕ} {b : Bool} (counted : n ≡ count_on reads r.a) (asked : b ≡ room_on r.a n) where
-    pub read_full : b ≡ false → action_k before (action_in code r) (held_as env reads counts written) ≡ stuck (held_as env reads counts written)
-    unfolding action_k held_as
-    read_full h =
-        let e : room_on r.a (count_on reads r.a) ≡ false = ap (room_on r.a) (sym counted) ∙ sym asked ∙ h in
-        rw (is_read is, e) refl
+    module _ {n : ℕ} {b : Bool} (counted : n ≡ count_on d.reads p) (asked : b ≡ room_on p n) where
+      room_is : room_on p (count_on d.reads p) ≡ b
+      room_is = ap (room_on p) (sym counted) ∙ sym asked
 
-    pub read_done : {m : ℕ} {env' : List ℕ} → b ≡ true → m ≡ symbol_of (read_symbol r.a n) → env' ≡ with_variable env r.b (symbol_k m)
-        → action_k before (action_in code r) (held_as env reads counts written) ≡ whole (held_as env' (set reads r.a (n + 1)) counts written)
-    unfolding action_k held_as with_read one_more
-    read_done {m} h es ee =
-        let e : room_on r.a (count_on reads r.a) ≡ true = ap (room_on r.a) (sym counted) ∙ sym asked ∙ h in
-        let x : symbol_k (symbol_of (read_symbol r.a (count_on reads r.a))) ≡ symbol_k m =
-        ap (λ k. symbol_k (symbol_of (read_symbol r.a k))) (sym counted) ∙ sym (ap symbol_k es) in
-        let w = ap (with_variable env r.b) x ∙ sym ee in
-        rw (is_read is, e) (λ i. whole (record { env = w i; reads = set reads r.a (sym counted i + 1); writes = writes_as counts written }))
+      pub read_full : b ≡ false → stuck d ≡ action_k before (action_meant code a) d
+      read_full h = sym (takes ∙ ap (λ r. cond r (whole (with_read d p v)) (stuck d)) (room_is ∙ h))
 
-  -- An expression that is too large, assigned or written.
-  module _ {f : Added} (formed : f ≡ added_of (formed_on before (tree_of (read_at code r.b)))) (other : r.kind ≡ 1 → ⊥) where
-    pub sum_large : f.size ≡ TooLarge → action_k before (action_in code r) (held_as env reads counts written) ≡ stuck (held_as env reads counts written)
-    unfolding action_k after_sum
-    sum_large h = by r.kind refl
-      where
-        large : formed_on before (tree_of (read_at code r.b)) ≡ too_large
-        large = added_large _ formed h
+      pub read_done : {m : ℕ} {s : Sum} {env : Env} → b ≡ true → m ≡ symbol_of (read_symbol p n) → s ≡ as_sum (symbol_k m) → env ≡ with_variable d.env v s
+          → whole (record { state = d.state; conditions = d.conditions; env = env; reads = set d.reads p (n + 1); writes = d.writes })
+          ≡ action_k before (action_meant code a) d
+      unfolding with_read one_more
+      read_done h em es ee =
+          let q = es ∙ ap (λ k. as_sum (symbol_k k)) (em ∙ ap (λ k. symbol_of (read_symbol p k)) counted) in
+          let w = ee ∙ ap (with_variable d.env v) q in
+          (λ i. whole (record { state = d.state; conditions = d.conditions; env = w i; reads = set d.reads p (counted i + 1); writes = d.writes }))
+          ∙ sym (takes ∙ ap (λ r. cond r (whole (with_read d p v)) (stuck d)) (room_is ∙ h))
 
-        by : (k : ℕ) → r.kind ≡ k → action_k before (action_in code r) (held_as env reads counts written) ≡ stuck (held_as env reads counts written)
-        by zero e = rw (is_assign e, large) refl
-        by (suc k) e = rw (is_write other (λ z. absurd (omega arith)), large) refl
+  -- A write.
+  module _ {p e : ℕ} (is : a ≡ Write p e) where
+    pub write_parsed : Parsed code a → is_parsed (read_at code e) ≡ true
+    unfolding Parsed
+    write_parsed h = rw is at h
 
-    -- An assign.
-    pub assign_done : {env' : List ℕ} → f.size ≡ Fits → r.kind ≡ 0 → env' ≡ with_variable env r.a (terms_of f.sum)
-        → action_k before (action_in code r) (held_as env reads counts written) ≡ whole (held_as env' reads counts written)
-    unfolding action_k held_as with_env after_sum
-    assign_done h k e =
-        rw (is_assign k, added_fits _ (formed_few before _) formed h) (λ i. whole (record { env = sym e i; reads = reads; writes = writes_as counts written }))
+    writes : action_k before (action_meant code a) d ≡ after_sum (formed_on before (tree_of (read_at code e))) d (λ s. cond (room_on p (wrote_on d.writes p)) (whole (with_given d p s)) (stuck d))
+    unfolding action_k action_meant
+    writes = rw is refl
 
-    -- A write.
-    module _ {n : ℕ} {b : Bool} (fine : f.size ≡ Fits) (not_assign : r.kind ≡ 0 → ⊥) (counted : n ≡ count_on counts r.a) (asked : b ≡ room_on r.a n) where
-      pub write_full : b ≡ false → action_k before (action_in code r) (held_as env reads counts written) ≡ stuck (held_as env reads counts written)
-      unfolding action_k held_as writes_as after_sum
-      write_full h =
-          let e : room_on r.a (count_on counts r.a) ≡ false = ap (room_on r.a) (sym counted) ∙ sym asked ∙ h in
-          rw (is_write other not_assign, added_fits _ (formed_few before _) formed fine, e) refl
+    module _ {x : Result Sum TooLarge} (formed : x ≡ added_of (formed_on before (tree_of (read_at code e)))) where
+      pub write_large : {t : TooLarge} → x ≡ Err t → stuck d ≡ action_k before (action_meant code a) d
+      write_large h = sym (writes ∙ sum_stuck _ d _ formed h)
 
-      pub write_done : (counts' written' : List ℕ) → b ≡ true → writes_as counts' written' ≡ with_write (writes_as counts written) r.a (terms_of f.sum)
-          → action_k before (action_in code r) (held_as env reads counts written) ≡ whole (held_as env reads counts' written')
-      unfolding action_k held_as with_given after_sum writes_as
-      write_done counts' written' h d =
-          let e : room_on r.a (count_on counts r.a) ≡ true = ap (room_on r.a) (sym counted) ∙ sym asked ∙ h in
-          rw (is_write other not_assign, added_fits _ (formed_few before _) formed fine, e)
-          (λ i. whole (record { env = env; reads = reads; writes = sym d i }))
+      module _ {s : Sum} (fits : x ≡ Ok s) {n : ℕ} {b : Bool} (counted : n ≡ wrote_on d.writes p) (asked : b ≡ room_on p n) where
+        gives_on : (c : Bool) → b ≡ c → action_k before (action_meant code a) d ≡ cond c (whole (with_given d p s)) (stuck d)
+        gives_on c h =
+            writes ∙ sum_goes _ d _ formed fits
+            ∙ ap (λ r. cond r (whole (with_given d p s)) (stuck d)) (ap (room_on p) (sym counted) ∙ sym asked ∙ h)
+
+        pub write_full : b ≡ false → stuck d ≡ action_k before (action_meant code a) d
+        write_full h = sym (gives_on false h)
+
+        pub write_done : (v : Port) {w : Port} → length d.writes ≡ 4 → b ≡ true → w.items ≡ (get_or d.writes p v).items ++ (s ∷ [])
+            → whole (record { state = d.state; conditions = d.conditions; env = d.env; reads = d.reads; writes = set d.writes p w })
+            ≡ action_k before (action_meant code a) d
+        unfolding with_given with_write with_sum
+        write_done v four h k =
+            let e = k ∙ ap (λ (x : Port). x.items ++ (s ∷ [])) (port_any d.writes p _ v four asked h) in
+            (λ i. whole (record { state = d.state; conditions = d.conditions; env = d.env; reads = d.reads; writes = set d.writes p (record { items = e i }) }))
+            ∙ sym (gives_on true h)
+
+-- The actions from i on are still to be done.
+pub record Moving (image code : List ℕ) (at first count : ℕ) (start d : Side) (i : ℕ) : Type 0 where
+  pub within : i ≤ first + count
+  pub rest : actions_k start.env (actions_in image code at i (first + count - i)) d ≡ actions_k start.env (actions_in image code at first count) start
+
+module _ (image code : List ℕ) (at first count : ℕ) (start : Side) where
+  pub move_start : Moving image code at first count start start first
+  move_start =
+      let e : first + count - first ≡ count = omega arith in
+      record { within = omega arith; rest = ap (λ n. actions_k start.env (actions_in image code at first n) start) e }
+
+  module _ (d : Side) (i : ℕ) (v : Moving image code at first count start d i) where
+    turn : i < first + count → actions_k start.env (actions_in image code at i (first + count - i)) d
+        ≡ after (action_k start.env (action_meant code (action_as (action_record image at i))) d) (actions_k start.env (actions_in image code at (i + 1) (first + count - (i + 1))))
+    unfolding actions_k actions_in
+    turn h =
+        ap (λ l. actions_k start.env (map (λ j. action_meant code (action_as (action_record image at j))) l) d)
+        (up_to_cons i (first + count - i) (first + count - (i + 1)) (omega arith))
+
+    module _ (more : i < first + count) {r : ActionRecord} {a : Action} (er : r ≡ action_record image at i) (ea : a ≡ action_as r) where
+      next : {o : Reached Side} → o ≡ action_k start.env (action_meant code a) d
+          → after o (actions_k start.env (actions_in image code at (i + 1) (first + count - (i + 1)))) ≡ actions_k start.env (actions_in image code at first count) start
+      next e =
+          ap (λ x. after x (actions_k start.env (actions_in image code at (i + 1) (first + count - (i + 1)))))
+          (e ∙ ap (λ x. action_k start.env (action_meant code x) d) (ea ∙ ap action_as er))
+          ∙ sym (turn more)
+          ∙ v.rest
+
+      pub move_step : {g : Side} → whole g ≡ action_k start.env (action_meant code a) d → Moving image code at first count start g (i + 1)
+      unfolding after
+      move_step e = record { within = omega arith; rest = next e }
+
+      pub move_stuck : {g : Side} → stuck g ≡ action_k start.env (action_meant code a) d → stuck g ≡ actions_k start.env (actions_in image code at first count) start
+      unfolding after
+      move_stuck e = next e
+
+    pub move_end : first + count ≤ i → whole d ≡ actions_k start.env (actions_in image code at first count) start
+    unfolding actions_k actions_in
+    move_end h =
+        sym (ap (λ l. actions_k start.env (map (λ j. action_meant code (action_as (action_record image at j))) l) d) (up_to_none i (first + count - i) (omega arith)))
+        ∙ v.rest

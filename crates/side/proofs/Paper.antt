@@ -1,9 +1,8 @@
--- Following on the arrays of the code keeps in step with following on the paper's sums (`model`, Path: follow): it is stuck where that is
+-- Following on the sides of the code keeps in step with following on the paper's sums (`model`, Path: follow): it is stuck where that is
 -- too large, or the side that is reached stands for the paper's: the same state, each variable's sum packed, the conditions in order with
 -- their sums packed, and for each port as many reads and the same sums written. Assumes nothing.
 use Prim.Native.Nat.{ℕ, zero, suc, ◌+◌, ◌*◌, ◌≤◌, ◌<◌}
 use mathlib.Core.Path.{◌≡◌, refl, sym, ◌∙◌, ap, subst}
-use mathlib.Core.Logic.{◌⊎◌, inl, inr, ⊎_elim}
 use mathlib.Core.Bool.{Bool, true, false, cond, ◌&&◌}
 use mathlib.Core.List.{List, [], ◌∷◌, ◌++◌, map, map-append, append-nil}
 use native.Mathlib.Omega.{arith}
@@ -11,7 +10,7 @@ use lib.Dec.{ltb, eqb}
 use lib.ListN.{length, get_or, set, length-set, length-append}
 use lib.Seq.{get_or-set_same, get_or-set_other}
 use borrow.Author.Tests.{ltb-true, eqb-true, eqb-false}
-use Rattle.model.specs.Answer.{up_to}
+use Rattle.model.specs.Word as Word
 use Rattle.model.specs.Word.{base}
 use Rattle.model.specs.Expr.{Expr}
 use Rattle.model.specs.Table.{Action, assign, read, write, Edge, State, stop, step, test, Table}
@@ -23,70 +22,57 @@ use Rattle.model.proofs.Following.{map_set, room_facts}
 use Rattle.model.proofs.Runs.{reads_append, writes_append}
 use Rattle.key.specs.Key.{pack, symbol_of}
 use Rattle.key.proofs.Pack.{pack_symbol}
+use Rattle.word.specs.Kinds.{kind_of, kind_as}
 use Rattle.sum.specs.declared.Term.{Term}
-use Rattle.sum.specs.Packed.{symbol_k, pack_sum, pack_outcome}
+use Rattle.sum.specs.Packed.{symbol_k, pack_sum, pack_outcome, terms_of, as_sum}
+use Rattle.sum.proofs.Held.{terms_as}
 use Rattle.sum.proofs.Keyed.{Keyed, symbol_keyed, symbol_keeps}
-use Rattle.env.specs.Env.{sum_at, sums_of, stored_in, with_variable}
-use Rattle.env.proofs.Stored.{length_stored, stored_same, stored_other, length_with, sums_with}
+use Rattle.env.specs.declared.Env.{Env}
+use Rattle.env.specs.Env.{sums_of, with_variable}
+use Rattle.env.proofs.Stored.{sums_with, length_with, sums_few}
 use Rattle.expr.specs.Normals.{sum_of_k}
-use Rattle.expr.proofs.Normals.{Few}
+use Rattle.expr.proofs.Normals.{Few, sum_few}
 use Rattle.expr.proofs.Paper.{AllKeyed, KeyedIf, sum_keyed, sum_packed}
-use Rattle.side.specs.Parts.{Condition, Conditions, Writes, Held, Side, kind_number, bit_of, condition_at, with_condition, count_on, one_more, written_on, with_write, side_as}
-use Rattle.side.specs.Following.{Reached, whole, stuck, formed_on, with_env, with_read, with_given, action_k, actions_k, asked_k, follow_k}
-use Rattle.side.proofs.Forming.{formed_few}
-use Rattle.side.proofs.Moving.{one_symbol}
-use Rattle.side.proofs.Lists.{read_more, map_within, Alike, Both, both_sum, both_after}
+use Rattle.condition.specs.declared.Condition.{Condition}
+use Rattle.condition.specs.declared.Conditions.{Conditions}
+use Rattle.condition.specs.Conditions.{with_condition, conditions_of}
+use Rattle.condition.proofs.Paper.{ConditionStands, AllStand}
+use Rattle.side.specs.declared.Side.{Side}
+use Rattle.side.specs.Parts.{Port, count_on, one_more, no_port, written_on, with_sum, wrote_on, with_write, at_state, with_asked, with_sum_of, with_read, with_given}
+use Rattle.side.specs.Following.{Reached, whole, stuck, formed_on, action_k, actions_k, asked_k, follow_k}
+use Rattle.side.proofs.Lists.{Alike, Both, both_sum, both_after}
 
--- The condition of the code that stands for one of the paper.
-unfoldable pub condition_of : Model.Condition → Condition
-condition_of c =
-    record { kind = kind_number c.kind; left = pack_sum pack c.left; right = pack_sum pack c.right; taken = c.taken }
-
--- Each of some conditions has sums that pack.
-unfoldable pub AllAsked : List Model.Condition → Type 0
-AllAsked [] = Unit {0}
-AllAsked (c ∷ l) = (Keyed c.left × Keyed c.right) × AllAsked l
-
--- A port of some writes stands for the sums written to it.
-pub record StandsPort (w : Writes) (p : ℕ) (l : List Sum) : Type 0 where
-  pub count : count_on w.counts p ≡ length l
-  pub few : count_on w.counts p ≤ 16
-  pub same : written_on w.sums p (count_on w.counts p) ≡ map (pack_sum pack) l
+-- A port stands for the sums written to it.
+pub record StandsPort (w : Port) (l : List Sum) : Type 0 where
+  pub count : length w.items ≡ length l
+  pub same : written_on w ≡ map (pack_sum pack) l
   pub keyed : AllKeyed l
 
--- The words of an environment stand for sums, one for each variable.
-pub record StandsEnv (words : List ℕ) (env : List Sum) : Type 0 where
-  pub full : length words ≡ 528
-  pub sums : sums_of words ≡ map (pack_sum pack) env
+-- An environment stands for sums, one for each variable.
+pub record StandsEnv (e : Env) (env : List Sum) : Type 0 where
+  pub full : length e.sums ≡ 16
+  pub sums : sums_of e ≡ map (pack_sum pack) env
   pub keyed : AllKeyed env
-
--- What actions change stands for the sums of the variables and for the reads and writes so far.
-pub record StandsHeld (h : Held) (env : List Sum) (events : List (Event Sum)) : Type 0 where
-  pub variables : StandsEnv h.env env
-  pub four_reads : length h.reads ≡ 4
-  pub four_writes : length h.writes.counts ≡ 4
-  pub full : length h.writes.sums ≡ 2112
-  pub counts : (p : ℕ) → p < 4 → count_on h.reads p ≡ reads p events
-  pub ports : (p : ℕ) → p < 4 → StandsPort h.writes p (writes p events)
 
 -- Conditions stand for those of the paper, in order.
 pub record StandsAsked (cs : Conditions) (l : List Model.Condition) : Type 0 where
-  pub count : cs.n ≡ length l
-  pub few : cs.n ≤ 32
-  pub full_marks : length cs.marks ≡ 64
-  pub full_sums : length cs.sums ≡ 2112
-  pub same : map (condition_at cs.marks cs.sums) (up_to 0 cs.n) ≡ map condition_of l
-  pub good : AllAsked l
+  pub count : length (conditions_of cs) ≡ length l
+  pub few : length (conditions_of cs) ≤ 32
+  pub same : AllStand (conditions_of cs) l
 
 -- A side stands for one of the paper.
 pub record Stands (d : Side) (m : Model.Side) : Type 0 where
   pub state : d.state ≡ m.state
   pub conditions : StandsAsked d.conditions m.conditions
-  pub held : StandsHeld d.held m.environment m.events
+  pub variables : StandsEnv d.env m.environment
+  pub four_reads : length d.reads ≡ 4
+  pub four_writes : length d.writes ≡ 4
+  pub counts : (p : ℕ) → p < 4 → count_on d.reads p ≡ reads p m.events
+  pub ports : (p : ℕ) → p < 4 → StandsPort (get_or d.writes p no_port) (writes p m.events)
 
 -- The sum of an expression.
 
--- Terms are the packing of a sum that packs, and few enough for a slot.
+-- Terms are the packing of a sum that packs, and few enough for a struct.
 pub record Packs (l : List Term) (s : Sum) : Type 0 where
   pub same : l ≡ pack_sum pack s
   pub few : length l ≤ 16
@@ -97,12 +83,11 @@ unfolding KeyedIf Few pack_outcome Alike pack_sum
 packs_if too_large k f = tt
 packs_if (fits s) k f = record { same = refl; few = f; keyed = k }
 
-pub formed_packs : (words : List ℕ) (env : List Sum) (e : Expr) → StandsEnv words env → Alike Packs (formed_on words e) (sum_of base env e)
-unfolding formed_on
-formed_packs words env e v =
-    let q : pack_outcome pack (sum_of base env e) ≡ sum_of_k base (sums_of words) e =
+pub formed_packs : (own : Env) (env : List Sum) (e : Expr) → StandsEnv own env → Alike Packs (formed_on own e) (sum_of base env e)
+formed_packs own env e v =
+    let q : pack_outcome pack (sum_of base env e) ≡ sum_of_k base (sums_of own) e =
     sum_packed base env v.keyed e ∙ ap (λ vs. sum_of_k base vs e) (sym v.sums) in
-    let few : Few (pack_outcome pack (sum_of base env e)) = rw q (formed_few words e) in
+    let few : Few (pack_outcome pack (sum_of base env e)) = rw q (sum_few (sums_of own) (sums_few own) base e) in
     subst (λ o. Alike Packs o (sum_of base env e)) q (packs_if (sum_of base env e) (sum_keyed base env v.keyed e) few)
 
 -- One sum of the environment replaced.
@@ -113,15 +98,19 @@ keyed_set [] v s h k = tt
 keyed_set (x ∷ env) zero s h k = (k, h.1)
 keyed_set (x ∷ env) (suc v) s h k = (h.0, keyed_set env v s h.1 k)
 
-pub env_set : (words : List ℕ) (env : List Sum) (v : ℕ) (l : List Term) (s : Sum) → StandsEnv words env → Packs l s → StandsEnv (with_variable words v l) (set env v s)
-env_set words env v l s h p =
+pub env_set : (own : Env) (env : List Sum) (v : ℕ) (l : List Term) (s : Sum) → StandsEnv own env → Packs l s → StandsEnv (with_variable own v (as_sum l)) (set env v s)
+env_set own env v l s h p =
     record {
-      full = length_with words v l h.full p.few;
-      sums = sums_with words v l h.full p.few ∙ (λ i. set (h.sums i) v (p.same i)) ∙ sym (map_set (pack_sum pack) env v s);
+      full = length_with own v (as_sum l) ∙ h.full;
+      sums = sums_with own v (as_sum l) ∙ (λ i. set (h.sums i) v ((terms_as l p.few ∙ p.same) i)) ∙ sym (map_set (pack_sum pack) env v s);
       keyed = keyed_set env v s h.keyed p.keyed;
     }
 
 -- The symbol of a read.
+
+one_symbol : (m : ℕ) → length (symbol_k m) ≤ 16
+unfolding symbol_k
+one_symbol m = omega arith
 
 pub symbol_packs : (x : ℕ) → x < 127 → Packs (symbol_k (symbol_of x)) (symbol_sum x)
 symbol_packs x h =
@@ -209,265 +198,185 @@ unfolding AllKeyed
 keyed_more [] s h g = (g, tt)
 keyed_more (x ∷ l) s h g = (h.0, keyed_more l s h.1 g)
 
--- Two numbers that differ: one is less.
-apart : (a b : ℕ) → (a ≡ b → ⊥) → (a < b) ⊎ (b < a)
-apart zero zero d = absurd (d refl)
-apart zero (suc b) d = inl (omega arith)
-apart (suc a) zero d = inr (omega arith)
-apart (suc a) (suc b) d = ⊎_elim (λ h. inl (omega arith)) (λ h. inr (omega arith)) (apart a b (λ e. d (ap suc e)))
+-- A port with one sum more.
+port_more : (w : Port) (m : List Sum) (l : List Term) (s : Sum) → StandsPort w m → Packs l s → StandsPort (with_sum w (as_sum l)) (m ++ (s ∷ []))
+unfolding written_on with_sum
+port_more w m l s g p =
+    let e : length (m ++ (s ∷ [])) ≡ length m + 1 = length-append m (s ∷ []) in
+    record {
+      count = omega (arith, e, g.count, length-append w.items (as_sum l ∷ []));
+      same = map-append terms_of w.items (as_sum l ∷ [])
+          ∙ (λ i. g.same i ++ ((terms_as l p.few ∙ p.same) i ∷ []))
+          ∙ sym (map-append (pack_sum pack) m (s ∷ []));
+      keyed = keyed_more m s g.keyed p.keyed;
+    }
 
-module _ (w : Writes) (p : ℕ) (l : List Term) (s : Sum) (four : length w.counts ≡ 4) (full : length w.sums ≡ 2112) (h : p < 4)
-    (room : count_on w.counts p < 16) (packs : Packs l s) where
-  slot : ℕ
-  slot = 16 * p + count_on w.counts p
-
-  inside : 33 * slot + 33 ≤ length w.sums
-  unfolding slot
-  inside = omega arith
-
-  written_full : length (with_write w p l).sums ≡ 2112
-  unfolding with_write slot
-  written_full = length_stored w.sums slot l inside packs.few ∙ full
-
-  written_four : length (with_write w p l).counts ≡ 4
-  unfolding with_write
-  written_four = more_four w.counts p four
-
-  -- The port that is written to.
-  port_more : (m : List Sum) → StandsPort w p m → StandsPort (with_write w p l) p (m ++ (s ∷ []))
-  unfolding with_write slot written_on
-  port_more m g =
-      let n : ℕ = count_on w.counts p in
-      let c : count_on (one_more w.counts p) p ≡ n + 1 = more_same w.counts p four h in
-      let e : length (m ++ (s ∷ [])) ≡ length m + 1 = length-append m (s ∷ []) in
-      record {
-        count = c ∙ omega (arith, e, g.count);
-        few = omega arith;
-        same = rw (c, map-append (pack_sum pack) m (s ∷ []))
-            (read_more (λ k. sum_at w.sums (16 * p + k)) (λ k. sum_at (stored_in w.sums (16 * p + n) l) (16 * p + k)) n (map (pack_sum pack) m) (pack_sum pack s) g.same
-            (λ j q. stored_other w.sums (16 * p + n) l inside packs.few (16 * p + j) (inl (omega arith)))
-            (stored_same w.sums (16 * p + n) l inside packs.few ∙ packs.same));
-        keyed = keyed_more m s g.keyed packs.keyed;
-      }
-
-  -- Another port.
-  port_other : (q : ℕ) (m : List Sum) → q < 4 → (q ≡ p → ⊥) → StandsPort w q m → StandsPort (with_write w p l) q m
-  unfolding with_write slot written_on
-  port_other q m i d g =
-      let c : count_on (one_more w.counts p) q ≡ count_on w.counts q = more_other w.counts p q d in
-      record {
-        count = c ∙ g.count;
-        few = omega (arith, g.few);
-        same = rw c
-            (map_within (λ k. sum_at (stored_in w.sums slot l) (16 * q + k)) (λ k. sum_at w.sums (16 * q + k)) 0 (count_on w.counts q)
-            (λ j a b. stored_other w.sums slot l inside packs.few (16 * q + j) (⊎_elim (λ x. inl (omega (arith, g.few))) (λ x. inr (omega (arith, g.few))) (apart q p d)))
-            ∙ g.same);
-        keyed = g.keyed;
-      }
-
-  ports_gave : (events : List (Event Sum)) (q : ℕ) → q < 4 → StandsPort w p (writes p events) → StandsPort w q (writes q events)
-      → StandsPort (with_write w p l) q (writes q (events ++ (gave p s ∷ [])))
-  unfolding keep_if
+-- A write more: the port that is written to, and each other one.
+module _ (ws : List Port) (p : ℕ) (l : List Term) (s : Sum) (four : length ws ≡ 4) (h : p < 4) (packs : Packs l s) where
+  ports_gave : (events : List (Event Sum)) (q : ℕ) → q < 4 → StandsPort (get_or ws p no_port) (writes p events) → StandsPort (get_or ws q no_port) (writes q events)
+      → StandsPort (get_or (with_write ws p (as_sum l)) q no_port) (writes q (events ++ (gave p s ∷ [])))
+  unfolding keep_if with_write wrote_on
   ports_gave events q k e f = by (eqb q p) refl
     where
-      by : (b : Bool) → eqb q p ≡ b → StandsPort (with_write w p l) q (writes q (events ++ (gave p s ∷ [])))
+      by : (b : Bool) → eqb q p ≡ b → StandsPort (get_or (with_write ws p (as_sum l)) q no_port) (writes q (events ++ (gave p s ∷ [])))
       by true z =
           let same : q ≡ p = eqb-true q p z in
           let t : writes q (events ++ (gave p s ∷ [])) ≡ writes p events ++ (s ∷ []) =
           writes_gave q p s events ∙ rw z (ap (λ j. writes j events ++ (s ∷ [])) same) in
-          rw (t, same) (port_more (writes p events) e)
+          rw (t, same, get_or-set_same ws p (with_sum (get_or ws p no_port) (as_sum l)) no_port (omega arith))
+          (port_more (get_or ws p no_port) (writes p events) l s e packs)
       by false z =
           let t : writes q (events ++ (gave p s ∷ [])) ≡ writes q events =
           writes_gave q p s events ∙ rw z (append-nil (writes q events)) in
-          rw t (port_other q (writes q events) k (eqb-false q p z) f)
+          rw (t, get_or-set_other ws p q (with_sum (get_or ws p no_port) (as_sum l)) no_port (eqb-false q p z)) f
 
 -- What actions make stands for the paper's side, which keeps its conditions.
-pub record Moved (cs : List Model.Condition) (h : Held) (m : Model.Side) : Type 0 where
-  pub held : StandsHeld h m.environment m.events
+pub record Moved (cs : List Model.Condition) (d : Side) (m : Model.Side) : Type 0 where
+  pub stands : Stands d m
   pub conditions : m.conditions ≡ cs
 
 -- One action on a side.
-
-module _ (cs : List Model.Condition) (h : Held) (m : Model.Side) (k : Moved cs h m) where
-  assigned : (x : ℕ) (l : List Term) (s : Sum) → Packs l s
-      → Moved cs (with_env h (with_variable h.env x l)) (side m.state (set m.environment x s) m.conditions m.events)
-  unfolding side with_env
+module _ (cs : List Model.Condition) (d : Side) (m : Model.Side) (k : Moved cs d m) where
+  assigned : (x : ℕ) (l : List Term) (s : Sum) → Packs l s → Moved cs (with_sum_of d x (as_sum l)) (side m.state (set m.environment x s) m.conditions m.events)
+  unfolding side with_sum_of
   assigned x l s p =
       record {
-        held = record {
-          variables = env_set h.env m.environment x l s k.held.variables p;
-          four_reads = k.held.four_reads;
-          four_writes = k.held.four_writes;
-          full = k.held.full;
-          counts = k.held.counts;
-          ports = k.held.ports;
+        stands = record {
+          state = k.stands.state;
+          conditions = k.stands.conditions;
+          variables = env_set d.env m.environment x l s k.stands.variables p;
+          four_reads = k.stands.four_reads;
+          four_writes = k.stands.four_writes;
+          counts = k.stands.counts;
+          ports = k.stands.ports;
         };
         conditions = k.conditions;
       }
 
-  taken : (p x : ℕ) → p < 4 → count_on h.reads p < 16
-      → Moved cs (with_read h p x) (side m.state (set m.environment x (symbol_sum (read_symbol p (reads p m.events)))) m.conditions (m.events ++ (took p ∷ [])))
+  taken : (p x : ℕ) → p < 4 → count_on d.reads p < 16
+      → Moved cs (with_read d p x) (side m.state (set m.environment x (symbol_sum (read_symbol p (reads p m.events)))) m.conditions (m.events ++ (took p ∷ [])))
   unfolding side with_read
   taken p x i j =
-      let c : count_on h.reads p ≡ reads p m.events = k.held.counts p i in
+      let c : count_on d.reads p ≡ reads p m.events = k.stands.counts p i in
       record {
-        held = record {
-          variables = rw (← c) (env_set h.env m.environment x _ _ k.held.variables (read_packs p (count_on h.reads p) i j));
-          four_reads = more_four h.reads p k.held.four_reads;
-          four_writes = k.held.four_writes;
-          full = k.held.full;
-          counts = λ q n. counts_took h.reads m.events p q k.held.four_reads i n c (k.held.counts q n);
-          ports = λ q n. rw (writes_took q p m.events) (k.held.ports q n);
+        stands = record {
+          state = k.stands.state;
+          conditions = k.stands.conditions;
+          variables = rw (← c) (env_set d.env m.environment x _ _ k.stands.variables (read_packs p (count_on d.reads p) i j));
+          four_reads = more_four d.reads p k.stands.four_reads;
+          four_writes = k.stands.four_writes;
+          counts = λ q n. counts_took d.reads m.events p q k.stands.four_reads i n c (k.stands.counts q n);
+          ports = λ q n. rw (writes_took q p m.events) (k.stands.ports q n);
         };
         conditions = k.conditions;
       }
 
-  given : (p : ℕ) (l : List Term) (s : Sum) → Packs l s → p < 4 → count_on h.writes.counts p < 16
-      → Moved cs (with_given h p l) (side m.state m.environment m.conditions (m.events ++ (gave p s ∷ [])))
-  unfolding side with_given
-  given p l s w i j =
+  given : (p : ℕ) (l : List Term) (s : Sum) → Packs l s → p < 4
+      → Moved cs (with_given d p (as_sum l)) (side m.state m.environment m.conditions (m.events ++ (gave p s ∷ [])))
+  unfolding side with_given with_write
+  given p l s w i =
       record {
-        held = record {
-          variables = k.held.variables;
-          four_reads = k.held.four_reads;
-          four_writes = written_four h.writes p l s k.held.four_writes k.held.full i j w;
-          full = written_full h.writes p l s k.held.four_writes k.held.full i j w;
-          counts = λ q n. k.held.counts q n ∙ sym (reads_gave q p s m.events);
-          ports = λ q n. ports_gave h.writes p l s k.held.four_writes k.held.full i j w m.events q n (k.held.ports p i) (k.held.ports q n);
+        stands = record {
+          state = k.stands.state;
+          conditions = k.stands.conditions;
+          variables = k.stands.variables;
+          four_reads = k.stands.four_reads;
+          four_writes = length-set d.writes p _ ∙ k.stands.four_writes;
+          counts = λ q n. k.stands.counts q n ∙ sym (reads_gave q p s m.events);
+          ports = λ q n. ports_gave d.writes p l s k.stands.four_writes i w m.events q n (k.stands.ports p i) (k.stands.ports q n);
         };
         conditions = k.conditions;
       }
 
-module _ (before : List ℕ) (env : List Sum) (v : StandsEnv before env) where
+module _ (before : Env) (env : List Sum) (v : StandsEnv before env) where
   -- One action.
-  action_stands : (a : Action) (cs : List Model.Condition) (h : Held) (m : Model.Side) → Moved cs h m → Both (Moved cs) (action_k before a h) (follow_action base env a m)
-  unfolding action_k follow_action Both
-  action_stands (assign x e) cs h m k =
-      both_sum Packs (Moved cs) (formed_on before e) (sum_of base env e) h _ _ (formed_packs before env e v) (assigned cs h m k x)
-  action_stands (read p x) cs h m k =
-      let same = room_same p (count_on h.reads p) (reads p m.events) (k.held.counts p) in
-      both_if (Moved cs) (room_on p (count_on h.reads p)) (room_on p (reads p m.events)) _ _ _ same
-      (λ e. let r = room_facts p (count_on h.reads p) (same ∙ e) in taken cs h m k p x r.0 r.1)
-  action_stands (write p e) cs h m k =
-      let same = room_same p (count_on h.writes.counts p) (length (writes p m.events)) (λ i. (k.held.ports p i).count) in
-      both_sum Packs (Moved cs) (formed_on before e) (sum_of base env e) h _ _ (formed_packs before env e v)
-      (λ l s w. both_if (Moved cs) (room_on p (count_on h.writes.counts p)) (room_on p (length (writes p m.events))) _ _ _ same
-      (λ f. let r = room_facts p (count_on h.writes.counts p) (same ∙ f) in given cs h m k p l s w r.0 r.1))
+  action_stands : (a : Action) (cs : List Model.Condition) (d : Side) (m : Model.Side) → Moved cs d m → Both (Moved cs) (action_k before a d) (follow_action base env a m)
+  unfolding action_k follow_action Both wrote_on
+  action_stands (assign x e) cs d m k =
+      both_sum Packs (Moved cs) (formed_on before e) (sum_of base env e) d _ _ (formed_packs before env e v) (assigned cs d m k x)
+  action_stands (read p x) cs d m k =
+      let same = room_same p (count_on d.reads p) (reads p m.events) (k.stands.counts p) in
+      both_if (Moved cs) (room_on p (count_on d.reads p)) (room_on p (reads p m.events)) _ _ _ same
+      (λ e. let r = room_facts p (count_on d.reads p) (same ∙ e) in taken cs d m k p x r.0 r.1)
+  action_stands (write p e) cs d m k =
+      let same = room_same p (wrote_on d.writes p) (length (writes p m.events)) (λ i. (k.stands.ports p i).count) in
+      both_sum Packs (Moved cs) (formed_on before e) (sum_of base env e) d _ _ (formed_packs before env e v)
+      (λ l s w. both_if (Moved cs) (room_on p (wrote_on d.writes p)) (room_on p (length (writes p m.events))) _ _ _ same
+      (λ f. let r = room_facts p (wrote_on d.writes p) (same ∙ f) in given cs d m k p l s w r.0))
 
   -- Actions in listed order.
-  actions_stand : (l : List Action) (cs : List Model.Condition) (h : Held) (m : Model.Side) → Moved cs h m → Both (Moved cs) (actions_k before l h) (follow_actions base env l m)
+  actions_stand : (l : List Action) (cs : List Model.Condition) (d : Side) (m : Model.Side) → Moved cs d m → Both (Moved cs) (actions_k before l d) (follow_actions base env l m)
   unfolding actions_k follow_actions Both
-  actions_stand [] cs h m k = k
-  actions_stand (a ∷ l) cs h m k =
-      both_after (Moved cs) (Moved cs) (action_k before a h) (follow_action base env a m) _ _ _ (action_stands a cs h m k) (actions_stand l cs)
+  actions_stand [] cs d m k = k
+  actions_stand (a ∷ l) cs d m k =
+      both_after (Moved cs) (Moved cs) (action_k before a d) (follow_action base env a m) _ _ (action_stands a cs d m k) (actions_stand l cs)
 
 -- The conditions with that of a state: those that are asked stand behind those that were.
 
-asked_more : (l : List Model.Condition) (c : Model.Condition) → AllAsked l → Keyed c.left → Keyed c.right → AllAsked (l ++ (c ∷ []))
-unfolding AllAsked
-asked_more [] c h x y = ((x, y), tt)
-asked_more (a ∷ l) c h x y = (h.0, asked_more l c h.1 x y)
+stand_more : (cs : List Condition) (l : List Model.Condition) (c : Condition) (m : Model.Condition) → AllStand cs l → ConditionStands c m → AllStand (cs ++ (c ∷ [])) (l ++ (m ∷ []))
+unfolding AllStand
+stand_more [] [] c m h k = (k, tt)
+stand_more [] (n ∷ l) c m h k = absurd h
+stand_more (d ∷ cs) [] c m h k = absurd h
+stand_more (d ∷ cs) (n ∷ l) c m h k = (h.0, stand_more cs l c m h.1 k)
 
--- The conditions behind a state, and that they are one more at most.
-record Behind (n : ℕ) (before : List Model.Condition) (cs : Conditions) (l : List Model.Condition) : Type 0 where
-  stands : StandsAsked cs (before ++ l)
-  count : cs.n ≤ n + 1
+kind_back : (k : Word.Kind) → kind_of (kind_as k) ≡ k
+unfolding kind_of kind_as
+kind_back Word.equal = refl
+kind_back Word.signed_less = refl
+kind_back Word.unsigned_less = refl
 
-behind_none : (cs : Conditions) (before : List Model.Condition) → StandsAsked cs before → Behind cs.n before cs []
-behind_none cs before h = record { stands = rw append-nil h; count = omega arith }
+-- A side behind a state, which has one condition more at most.
+record Behind (d : Side) (m : Model.Side) (c : Side) (l : List Model.Condition) : Type 0 where
+  stands : Stands c (side m.state m.environment (m.conditions ++ l) m.events)
+  count : length (conditions_of c.conditions) ≤ length (conditions_of d.conditions) + 1
 
-bit_back : (b : Bool) → eqb (bit_of b) 1 ≡ b
-unfolding bit_of
-bit_back true = refl
-bit_back false = refl
+module _ (d : Side) (m : Model.Side) (h : Stands d m) where
+  behind_none : Behind d m d []
+  unfolding side
+  behind_none = record { stands = rw append-nil h; count = omega arith }
 
-module _ (cs : Conditions) (before : List Model.Condition) (c : Model.Condition) (x y : List Term) (h : StandsAsked cs before) (room : cs.n < 32)
-    (p : Packs x c.left) (q : Packs y c.right) where
-  -- The marks and the sums with those of the condition.
-  marks : List ℕ
-  marks = set (set cs.marks (2 * cs.n) (kind_number c.kind)) (2 * cs.n + 1) (bit_of c.taken)
+  module _ (c : Model.Condition) (x y : List Term) (room : length (conditions_of d.conditions) < 32) (p : Packs x c.left) (q : Packs y c.right) where
+    behind_one : Behind d m (with_asked d (kind_as c.kind) (as_sum x) (as_sum y) c.taken) (c ∷ [])
+    unfolding side with_asked with_condition
+    behind_one =
+        let cs : Conditions = d.conditions in
+        let e : length (m.conditions ++ (c ∷ [])) ≡ length m.conditions + 1 = length-append m.conditions (c ∷ []) in
+        let new : Condition = record { kind = kind_as c.kind; left = as_sum x; right = as_sum y; taken = c.taken } in
+        let f = length-append (conditions_of cs) (new ∷ []) in
+        let stands : ConditionStands new c = record {
+          kind = kind_back c.kind;
+          left = terms_as x p.few ∙ p.same;
+          right = terms_as y q.few ∙ q.same;
+          taken = refl;
+          keyed_left = p.keyed;
+          keyed_right = q.keyed;
+        } in
+        record {
+          stands = record {
+            state = h.state;
+            conditions = record {
+              count = omega (arith, e, f, h.conditions.count);
+              few = omega (arith, f);
+              same = stand_more (conditions_of cs) m.conditions new c h.conditions.same stands;
+            };
+            variables = h.variables;
+            four_reads = h.four_reads;
+            four_writes = h.four_writes;
+            counts = h.counts;
+            ports = h.ports;
+          };
+          count = omega (arith, f);
+        }
 
-  one : List ℕ
-  one = stored_in cs.sums (2 * cs.n) x
-
-  two : List ℕ
-  two = stored_in one (2 * cs.n + 1) y
-
-  in_one : 33 * (2 * cs.n) + 33 ≤ length cs.sums
-  in_one = omega (arith, h.full_sums)
-
-  one_full : length one ≡ 2112
-  unfolding one
-  one_full = length_stored cs.sums (2 * cs.n) x in_one p.few ∙ h.full_sums
-
-  in_two : 33 * (2 * cs.n + 1) + 33 ≤ length one
-  in_two = omega (arith, one_full)
-
-  -- An earlier condition is as it was.
-  earlier : (j : ℕ) → j < cs.n → condition_at marks two j ≡ condition_at cs.marks cs.sums j
-  unfolding condition_at marks one two
-  earlier j i =
-      let k : ℕ = kind_number c.kind in
-      let b : ℕ = bit_of c.taken in
-      let mark : (z : ℕ) → z < 2 * cs.n → get_or (set (set cs.marks (2 * cs.n) k) (2 * cs.n + 1) b) z 0 ≡ get_or cs.marks z 0 = λ z m.
-      get_or-set_other (set cs.marks (2 * cs.n) k) (2 * cs.n + 1) z b 0 (λ e. absurd (omega arith))
-      ∙ get_or-set_other cs.marks (2 * cs.n) z k 0 (λ e. absurd (omega arith)) in
-      let held : (z : ℕ) → z < 2 * cs.n → sum_at (stored_in (stored_in cs.sums (2 * cs.n) x) (2 * cs.n + 1) y) z ≡ sum_at cs.sums z = λ z m.
-      stored_other (stored_in cs.sums (2 * cs.n) x) (2 * cs.n + 1) y in_two q.few z (inl (omega arith))
-      ∙ stored_other cs.sums (2 * cs.n) x in_one p.few z (inl (omega arith)) in
-      λ t.
-      record {
-        kind = mark (2 * j) (omega arith) t;
-        left = held (2 * j) (omega arith) t;
-        right = held (2 * j + 1) (omega arith) t;
-        taken = eqb (mark (2 * j + 1) (omega arith) t) 1;
-      }
-
-  -- The new one stands for the paper's.
-  latest : condition_at marks two cs.n ≡ condition_of c
-  unfolding condition_at condition_of marks one two
-  latest =
-      let k : ℕ = kind_number c.kind in
-      let b : ℕ = bit_of c.taken in
-      let l : length (set cs.marks (2 * cs.n) k) ≡ 64 = length-set cs.marks (2 * cs.n) k ∙ h.full_marks in
-      let kind : get_or (set (set cs.marks (2 * cs.n) k) (2 * cs.n + 1) b) (2 * cs.n) 0 ≡ k =
-      get_or-set_other (set cs.marks (2 * cs.n) k) (2 * cs.n + 1) (2 * cs.n) b 0 (λ e. absurd (omega arith))
-      ∙ get_or-set_same cs.marks (2 * cs.n) k 0 (omega (arith, h.full_marks)) in
-      let side : get_or (set (set cs.marks (2 * cs.n) k) (2 * cs.n + 1) b) (2 * cs.n + 1) 0 ≡ b =
-      get_or-set_same (set cs.marks (2 * cs.n) k) (2 * cs.n + 1) b 0 (omega arith) in
-      let left =
-      stored_other (stored_in cs.sums (2 * cs.n) x) (2 * cs.n + 1) y in_two q.few (2 * cs.n) (inl (omega arith))
-      ∙ stored_same cs.sums (2 * cs.n) x in_one p.few
-      ∙ p.same in
-      let right = stored_same (stored_in cs.sums (2 * cs.n) x) (2 * cs.n + 1) y in_two q.few ∙ q.same in
-      λ t. record { kind = kind t; left = left t; right = right t; taken = (ap (λ z. eqb z 1) side ∙ bit_back c.taken) t }
-
-  behind_one : Behind cs.n before (with_condition cs c.kind x y c.taken) (c ∷ [])
-  unfolding with_condition marks one two
-  behind_one =
-      let e : length (before ++ (c ∷ [])) ≡ length before + 1 = length-append before (c ∷ []) in
-      record {
-        stands = record {
-          count = omega (arith, e, h.count);
-          few = omega arith;
-          full_marks = length-set (set cs.marks (2 * cs.n) (kind_number c.kind)) (2 * cs.n + 1) _ ∙ length-set cs.marks (2 * cs.n) _ ∙ h.full_marks;
-          full_sums = length_stored one (2 * cs.n + 1) y in_two q.few ∙ one_full;
-          same = rw (map-append condition_of before (c ∷ []))
-              (read_more (condition_at cs.marks cs.sums) (condition_at marks two) cs.n (map condition_of before) (condition_of c) h.same earlier latest);
-          good = asked_more before c h.good p.keyed q.keyed;
-        };
-        count = omega arith;
-      }
-
-asked_stands : (words : List ℕ) (x : State) (b : Bool) (cs : Conditions) (m : Model.Side) → StandsEnv words m.environment → StandsAsked cs m.conditions → cs.n < 32
-    → Both (Behind cs.n m.conditions) (asked_k words x b cs) (asked base x b m)
-unfolding asked_k asked Both
-asked_stands words stop b cs m v h k = behind_none cs m.conditions h
-asked_stands words (step e) b cs m v h k = behind_none cs m.conditions h
-asked_stands words (test kind l r e f) b cs m v h k =
-    both_sum Packs (Behind cs.n m.conditions) (formed_on words l) (sum_of base m.environment l) cs _ _ (formed_packs words m.environment l v)
-    (λ y s p. both_sum Packs (Behind cs.n m.conditions) (formed_on words r) (sum_of base m.environment r) cs _ _ (formed_packs words m.environment r v)
-    (λ z t q. behind_one cs m.conditions (record { kind = kind; left = s; right = t; taken = b }) y z h k p q))
+  asked_stands : (x : State) (b : Bool) → length (conditions_of d.conditions) < 32 → Both (Behind d m) (asked_k x b d) (asked base x b m)
+  unfolding asked_k asked Both
+  asked_stands stop b k = behind_none
+  asked_stands (step e) b k = behind_none
+  asked_stands (test kind l r e f) b k =
+      both_sum Packs (Behind d m) (formed_on d.env l) (sum_of base m.environment l) d _ _ (formed_packs d.env m.environment l h.variables)
+      (λ y s p. both_sum Packs (Behind d m) (formed_on d.env r) (sum_of base m.environment r) d _ _ (formed_packs d.env m.environment r h.variables)
+      (λ z t q. behind_one (record { kind = kind; left = s; right = t; taken = b }) y z k p q))
 
 -- An edge, and then the side behind it.
 
@@ -478,26 +387,39 @@ both_map R S (stuck a) (fits b) g h k = absurd h
 both_map R S (whole a) too_large g h k = absurd h
 both_map R S (whole a) (fits b) g h k = k a b h
 
-edge_stands : (e : Edge) (cs : Conditions) (l : List Model.Condition) (h : Held) (m : Model.Side) → StandsAsked cs l → Moved l h m
-    → Both (λ g d. Stands (side_as e.target cs g) d) (actions_k h.env e.actions h) (follow_edge base e m)
-unfolding follow_edge side side_as
-edge_stands e cs l h m c k =
-    both_map (Moved l) (λ g d. Stands (side_as e.target cs g) d) _ (follow_actions base m.environment e.actions m) _
-    (actions_stand h.env m.environment k.held.variables e.actions l h m k)
-    (λ g d r. record { state = refl; conditions = rw r.conditions c; held = r.held })
+-- A side behind an edge stands for the paper's, and has no more conditions than it had.
+record Left (d : Side) (t : ℕ) (g : Side) (m : Model.Side) : Type 0 where
+  stands : Stands (at_state t g) m
+  count : length (conditions_of g.conditions) ≡ length (conditions_of d.conditions)
+
+edge_stands : (e : Edge) (d : Side) (m : Model.Side) → Stands d m → Both (Left d e.target) (actions_k d.env e.actions d) (follow_edge base e m)
+unfolding follow_edge side at_state
+edge_stands e d m h =
+    both_map (Moved m.conditions) (Left d e.target) _ (follow_actions base m.environment e.actions m) _
+    (actions_stand d.env m.environment h.variables e.actions m.conditions d m (record { stands = h; conditions = refl }))
+    (λ g c r.
+    let k = r.stands in
+    record {
+      stands = record {
+        state = refl;
+        conditions = k.conditions;
+        variables = k.variables;
+        four_reads = k.four_reads;
+        four_writes = k.four_writes;
+        counts = k.counts;
+        ports = k.ports;
+      };
+      count = omega (arith, k.conditions.count, h.conditions.count, ap length r.conditions);
+    })
 
 -- Following choices keeps in step.
-pub follow_stands : (t : Table) (bs : List Bool) (d : Side) (m : Model.Side) → Stands d m → d.conditions.n + length bs ≤ 32 → Both Stands (follow_k t bs d) (follow base t bs m)
-unfolding follow_k follow Both side side_as
+pub follow_stands : (t : Table) (bs : List Bool) (d : Side) (m : Model.Side) → Stands d m → length (conditions_of d.conditions) + length bs ≤ 32 → Both Stands (follow_k t bs d) (follow base t bs m)
+unfolding follow_k follow Both side at_state
 follow_stands t [] d m h k = h
 follow_stands t (b ∷ bs) d m h k =
-    rw h.state
-    (both_after (Behind d.conditions.n m.conditions) Stands _ _ _ _ _
-    (asked_stands d.held.env (t m.state) b d.conditions m h.held.variables h.conditions (omega arith))
-    (λ cs l r. both_after (λ g x. Stands (side_as (edge_on (t m.state) b).target cs g) x) Stands _ _ _ _ _
-    (edge_stands (edge_on (t m.state) b) cs (m.conditions ++ l) d.held (side m.state m.environment (m.conditions ++ l) m.events) r.stands
-    (record { held = h.held; conditions = refl }))
-    (λ g x u. follow_stands t bs _ x u (within r k))))
-  where
-    within : {cs : Conditions} {l : List Model.Condition} → Behind d.conditions.n m.conditions cs l → d.conditions.n + suc (length bs) ≤ 32 → cs.n + length bs ≤ 32
-    within r k = omega (arith, r.count)
+    rw (ap t h.state)
+    (both_after (Behind d m) Stands _ _ _ _
+    (asked_stands d m h (t m.state) b (omega arith))
+    (λ c l r. both_after (Left c (edge_on (t m.state) b).target) Stands _ _ _ _
+    (edge_stands (edge_on (t m.state) b) c (side m.state m.environment (m.conditions ++ l) m.events) r.stands)
+    (λ g x u. follow_stands t bs _ x u.stands (omega (arith, r.count, u.count, k)))))

@@ -1,110 +1,87 @@
--- The parts of a side as the code holds them: the sums of the variables, the conditions with their marks and sums, and the reads and
--- writes of each port, in arrays that are lent; one condition, read or write more each time. What stands behind what is counted is not read.
+-- The parts of a side as the code holds them: the state, the conditions, the sums of the variables, and the reads and writes of each
+-- port; one condition, read or write more each time. There is room for 32 conditions, and for 16 sums on each port.
 -- 01: "A condition is a kind, two normal sums as written, and the side taken"; "over 16 reads or 16 writes on one port" is too large.
 -- Assumes nothing.
-use Rattle.std.specs.Prelude.{ℕ, ◌+◌, ◌*◌, min, Bool, true, false, List, map, eqb, get_or, set, replicate}
-use Rattle.model.specs.Answer.{up_to}
-use Rattle.model.specs.Word.{Kind, equal, signed_less, unsigned_less}
+use Rattle.std.specs.Prelude.{ℕ, ◌+◌, Bool, List, [], ◌∷◌, ◌++◌, map, length, get_or, set, replicate}
+use Rattle.model.specs.Path.{read_symbol}
+use Rattle.key.specs.Key.{symbol_of}
+use Rattle.arrayvec.specs.ArrayVec.{ArrayVec}
+use Rattle.word.specs.declared.Kind.{Kind}
 use Rattle.sum.specs.declared.Term.{Term}
-use Rattle.env.specs.Env.{sum_at, stored_in}
+use Rattle.sum.specs.declared.Sum.{Sum}
+use Rattle.sum.specs.Packed.{symbol_k, terms_of, as_sum}
+use Rattle.env.specs.declared.Env.{Env}
+use Rattle.env.specs.Env.{with_variable}
+use Rattle.condition.specs.Conditions.{no_conditions, with_condition}
+use Rattle.side.specs.declared.Side.{Side}
 
--- A condition: the number of its kind, two packed sums, and the side taken.
-pub record Condition : Type 0 where
-  pub kind : ℕ
-  pub left : List Term
-  pub right : List Term
-  pub taken : Bool
-
--- Conditions: how many, their marks, two numbers each, and their sums, two slots each.
-pub record Conditions : Type 0 where
-  pub n : ℕ
-  pub marks : List ℕ
-  pub sums : List ℕ
-
--- Writes: how many on each port, and their sums, sixteen slots to a port.
-pub record Writes : Type 0 where
-  pub counts : List ℕ
-  pub sums : List ℕ
-
--- What actions change: the sums of the variables, the number of reads on each port, and the writes.
-pub record Held : Type 0 where
-  pub env : List ℕ
-  pub reads : List ℕ
-  pub writes : Writes
-
--- A side: the state reached, the conditions on the way, and what the actions made.
-pub record Side : Type 0 where
-  pub state : ℕ
-  pub conditions : Conditions
-  pub held : Held
-
--- The number of a kind of test.
-unfoldable pub kind_number : Kind → ℕ
-kind_number equal = 0
-kind_number signed_less = 1
-kind_number unsigned_less = 2
-
--- The number of a side taken.
-unfoldable pub bit_of : Bool → ℕ
-bit_of true = 1
-bit_of false = 0
-
--- Condition i of some marks and sums.
-unfoldable pub condition_at : List ℕ → List ℕ → ℕ → Condition
-condition_at marks sums i =
-    record {
-      kind = get_or marks (2 * i) 0;
-      left = sum_at sums (2 * i);
-      right = sum_at sums (2 * i + 1);
-      taken = eqb (get_or marks (2 * i + 1) 0) 1;
-    }
-
--- The first n conditions of some marks and sums; a count over 32 is read as 32.
-unfoldable pub conditions_of : ℕ → List ℕ → List ℕ → List Condition
-conditions_of n marks sums = map (condition_at marks sums) (up_to 0 (min n 32))
-
--- One condition more.
-unfoldable pub with_condition : Conditions → Kind → List Term → List Term → Bool → Conditions
-with_condition cs k l r b =
-    record {
-      n = cs.n + 1;
-      marks = set (set cs.marks (2 * cs.n) (kind_number k)) (2 * cs.n + 1) (bit_of b);
-      sums = stored_in (stored_in cs.sums (2 * cs.n) l) (2 * cs.n + 1) r;
-    }
-
--- How many there are of something on port p; none on a port that is not there.
+-- How many words are read on port p; none on a port that is not there.
 unfoldable pub count_on : List ℕ → ℕ → ℕ
 count_on counts p = get_or counts p 0
 
--- One more on port p.
+-- One word more is read on port p.
 unfoldable pub one_more : List ℕ → ℕ → List ℕ
 one_more counts p = set counts p (count_on counts p + 1)
 
--- The first n sums of port p.
-unfoldable pub written_on : List ℕ → ℕ → ℕ → List (List Term)
-written_on sums p n = map (λ k. sum_at sums (16 * p + k)) (up_to 0 n)
+-- The sums written to a port.
+abbrev pub Port : Type 0
+Port = ArrayVec Sum
 
--- One write more on port p.
-unfoldable pub with_write : Writes → ℕ → List Term → Writes
-with_write w p l = record { counts = one_more w.counts p; sums = stored_in w.sums (16 * p + count_on w.counts p) l }
+-- A port with no sums; it stands past the end, too.
+abbrev pub no_port : Port
+no_port = record { items = [] }
 
--- Conditions from their parts.
-unfoldable pub conditions_as : ℕ → List ℕ → List ℕ → Conditions
-conditions_as n marks sums = record { n = n; marks = marks; sums = sums }
+-- The sums of a port, in order.
+unfoldable pub written_on : Port → List (List Term)
+written_on w = map terms_of w.items
 
--- Writes from their parts.
-unfoldable pub writes_as : List ℕ → List ℕ → Writes
-writes_as counts sums = record { counts = counts; sums = sums }
+-- A port with one sum more.
+unfoldable pub with_sum : Port → Sum → Port
+with_sum w s = record { items = w.items ++ (s ∷ []) }
 
--- What actions change, from its parts.
-unfoldable pub held_as : List ℕ → List ℕ → List ℕ → List ℕ → Held
-held_as env reads counts written = record { env = env; reads = reads; writes = writes_as counts written }
+-- How many sums are written on port p; none on a port that is not there.
+unfoldable pub wrote_on : List Port → ℕ → ℕ
+wrote_on ws p = length (get_or ws p no_port).items
 
--- A side from its parts.
-unfoldable pub side_as : ℕ → Conditions → Held → Side
-side_as s cs h = record { state = s; conditions = cs; held = h }
+-- One sum more is written on port p.
+unfoldable pub with_write : List Port → ℕ → Sum → List Port
+with_write ws p s = set ws p (with_sum (get_or ws p no_port) s)
+
+-- A side at another state.
+unfoldable pub at_state : ℕ → Side → Side
+at_state s d = record { state = s; conditions = d.conditions; env = d.env; reads = d.reads; writes = d.writes }
+
+-- A side with one condition more.
+unfoldable pub with_asked : Side → Kind → Sum → Sum → Bool → Side
+with_asked d k l r b =
+    record { state = d.state; conditions = with_condition d.conditions k l r b; env = d.env; reads = d.reads; writes = d.writes }
+
+-- A side with the sum of variable v replaced.
+unfoldable pub with_sum_of : Side → ℕ → Sum → Side
+with_sum_of d v s =
+    record { state = d.state; conditions = d.conditions; env = with_variable d.env v s; reads = d.reads; writes = d.writes }
+
+-- A side with one read more on port p, into variable v.
+unfoldable pub with_read : Side → ℕ → ℕ → Side
+with_read d p v =
+    record {
+      state = d.state;
+      conditions = d.conditions;
+      env = with_variable d.env v (as_sum (symbol_k (symbol_of (read_symbol p (count_on d.reads p)))));
+      reads = one_more d.reads p;
+      writes = d.writes;
+    }
+
+-- A side with one sum more written on port p.
+unfoldable pub with_given : Side → ℕ → Sum → Side
+with_given d p s =
+    record { state = d.state; conditions = d.conditions; env = d.env; reads = d.reads; writes = with_write d.writes p s }
 
 -- A side at the start of a path: no conditions, reads or writes.
-unfoldable pub start_as : ℕ → List ℕ → List ℕ → List ℕ → List ℕ → Side
-start_as s env marks sums written =
-    side_as s (conditions_as 0 marks sums) (held_as env (replicate 4 0) (replicate 4 0) written)
+unfoldable pub start_as : ℕ → Env → Side
+start_as s env =
+    record { state = s; conditions = no_conditions; env = env; reads = replicate 4 0; writes = replicate 4 no_port }
+
+-- A side with nothing on it.
+unfoldable pub blank : Side
+blank = start_as 0 (record { sums = replicate 16 (as_sum []) })

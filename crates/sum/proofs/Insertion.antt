@@ -1,17 +1,22 @@
 -- What an insertion does at its place, and what the search for the place passes. Assumes nothing.
-use Prim.Native.Nat.{ℕ, suc, ◌+◌, ◌≤◌, ◌<◌}
+use Prim.Native.Nat.{ℕ, zero, suc, ◌+◌, ◌≤◌, ◌<◌}
 use mathlib.Core.Path.{◌≡◌, refl, sym, ap, ◌∙◌}
 use mathlib.Core.Bool.{Bool, true, false, cond}
-use mathlib.Core.List.{List, [], ◌∷◌, ◌++◌, map}
+use mathlib.Core.List.{List, [], ◌∷◌, ◌++◌}
 use native.Mathlib.Numerals.{add-one}
 use native.Mathlib.Omega.{arith}
-use lib.Dec.{ltb}
+use lib.Dec.{eqb, ltb}
 use lib.ListN.{length, get_or, take, drop, set, take-append-drop}
-use lib.Seq.{slice, slice-cons, slice_empty, length-take-le, set_split}
+use lib.Seq.{drop-cons, set_split}
+use Rattle.std.specs.Prelude.{Option, Some, None, MatchOption}
+use Rattle.std.specs.Option.{unwrap_or}
+use Rattle.std.specs.List.{AllWithin, HoldsAt, prefix_len}
+use Rattle.std.proofs.lemmas.List.Sums.{prefix_len-le-length, prefix_len_is, prefix_len_passes, prefix_len_stops}
+use Rattle.std.proofs.lemmas.List.{at_drop_all}
 use borrow.Author.Tests.{ltb-true, ltb-false, lt-ltb, le-ltb, eq-eqb, ne_eqb}
 use Rattle.model.specs.Word.{plus}
 use Rattle.sum.specs.declared.Term.{Term}
-use Rattle.sum.specs.Packed.{keep_k, joined_k, insert_k, collect_k, place_of, zero_term}
+use Rattle.sum.specs.Packed.{keep_k, joined_k, insert_k, collect_k, zero_term}
 
 -- A term whose coefficient is zero is dropped.
 pub keep_zero : (t : Term) (s : List Term) → t.coef ≡ 0 → keep_k t s ≡ s
@@ -22,25 +27,6 @@ keep_zero t s e = rw (eq-eqb _ _ e)
 pub keep_some : (t : Term) (s : List Term) → (t.coef ≡ 0 → ⊥) → keep_k t s ≡ t ∷ s
 unfolding keep_k
 keep_some t s e = rw (ne_eqb _ _ e)
-
--- The place of packed symbols: behind the first ones where those precede them, and else in front.
-pub place_behind : (m u : ℕ) (s : List ℕ) → u < m → place_of m (u ∷ s) ≡ suc (place_of m s)
-unfolding place_of
-place_behind m u s h = rw (lt-ltb _ _ h)
-
-pub place_here : (m u : ℕ) (s : List ℕ) → m ≤ u → place_of m (u ∷ s) ≡ 0
-unfolding place_of
-place_here m u s h = rw (le-ltb _ _ h)
-
--- The place is in the list or at its end.
-pub place_within : (m : ℕ) (s : List ℕ) → place_of m s ≤ length s
-unfolding place_of
-place_within m [] = omega arith
-place_within m (u ∷ s) = split (ltb u m) (place_within m s)
-  where
-    split : (b : Bool) → place_of m s ≤ length s → cond b (suc (place_of m s)) 0 ≤ suc (length s)
-    split true h = omega arith
-    split false h = omega arith
 
 -- An insertion, case by case: joined with the first term, put in front of it, or put behind it.
 insert_joins : (w : ℕ) (t u : Term) (s : List Term) → t.mono ≡ u.mono → insert_k w t (u ∷ s) ≡ keep_k (joined_k w t u) s
@@ -55,101 +41,52 @@ insert_behind : (w : ℕ) (t u : Term) (s : List Term) → u.mono < t.mono → i
 unfolding insert_k
 insert_behind w t u s h = rw (ne_eqb t.mono u.mono (λ e. omega arith), le-ltb t.mono u.mono (omega arith))
 
--- The packed symbols of each term.
-abbrev pub monos : List Term → List ℕ
-monos s = map (λ u. u.mono) s
-
 -- What an insertion is, given the place p.
-abbrev pub Joined : ℕ → Term → List Term → ℕ → Type 0
+abbrev Joined : ℕ → Term → List Term → ℕ → Type 0
 Joined w t s p = insert_k w t s ≡ take p s ++ keep_k (joined_k w t (get_or s p zero_term)) (drop (suc p) s)
 
-abbrev pub Kept : ℕ → Term → List Term → ℕ → Type 0
+abbrev Kept : ℕ → Term → List Term → ℕ → Type 0
 Kept w t s p = insert_k w t s ≡ take p s ++ keep_k t (drop p s)
 
--- A term that has the symbols of the one at its place is joined with it.
-pub insert_join : (w : ℕ) (t : Term) (s : List Term)
-    → place_of t.mono (monos s) < length s
-    → (get_or s (place_of t.mono (monos s)) zero_term).mono ≡ t.mono
-    → Joined w t s (place_of t.mono (monos s))
-unfolding insert_k place_of
-insert_join w t [] h e = absurd (omega arith)
-insert_join w t (u ∷ s) h e = split (insert_join w t s) (ltb u.mono t.mono) refl h e
-  where
-    split : (place_of t.mono (monos s) < length s → (get_or s (place_of t.mono (monos s)) zero_term).mono ≡ t.mono → Joined w t s (place_of t.mono (monos s)))
-        → (b : Bool) → ltb u.mono t.mono ≡ b
-        → cond b (suc (place_of t.mono (monos s))) 0 < suc (length s)
-        → (get_or (u ∷ s) (cond b (suc (place_of t.mono (monos s))) 0) zero_term).mono ≡ t.mono
-        → Joined w t (u ∷ s) (cond b (suc (place_of t.mono (monos s))) 0)
-    split ih true b h e = insert_behind w t u s (ltb-true _ _ b) ∙ ap (λ r. u ∷ r) (ih (omega arith) e)
-    split ih false b h e = insert_joins w t u s (sym e)
+-- The first p terms precede t.
+abbrev Precede : Term → List Term → ℕ → Type 0
+Precede t s p = (k : ℕ) → k < p → (get_or s k zero_term).mono < t.mono
 
--- Any other term is kept at its place.
-pub insert_keep : (w : ℕ) (t : Term) (s : List Term)
-    → (place_of t.mono (monos s) < length s → (get_or s (place_of t.mono (monos s)) zero_term).mono ≡ t.mono → ⊥)
-    → Kept w t s (place_of t.mono (monos s))
-unfolding insert_k place_of
-insert_keep w t [] h = refl
-insert_keep w t (u ∷ s) h = split (insert_keep w t s) (ltb u.mono t.mono) refl h
-  where
-    split : ((place_of t.mono (monos s) < length s → (get_or s (place_of t.mono (monos s)) zero_term).mono ≡ t.mono → ⊥) → Kept w t s (place_of t.mono (monos s)))
-        → (b : Bool) → ltb u.mono t.mono ≡ b
-        → (cond b (suc (place_of t.mono (monos s))) 0 < suc (length s)
-        → (get_or (u ∷ s) (cond b (suc (place_of t.mono (monos s))) 0) zero_term).mono ≡ t.mono → ⊥)
-        → Kept w t (u ∷ s) (cond b (suc (place_of t.mono (monos s))) 0)
-    split ih true b h = insert_behind w t u s (ltb-true _ _ b) ∙ ap (λ r. u ∷ r) (ih (λ k. h (omega arith)))
-    split ih false b h =
-        let n : u.mono ≡ t.mono → ⊥ = h (omega arith) in
-        let l : t.mono ≤ u.mono = ltb-false _ _ b in
-        insert_front w t u s (omega (arith, n))
+-- A term that has the symbols of the one behind those that precede it is joined with that one.
+insert_join : (w : ℕ) (t : Term) (s : List Term) (p : ℕ) → p < length s → Precede t s p → (get_or s p zero_term).mono ≡ t.mono → Joined w t s p
+insert_join w t [] p h b e = absurd (omega arith)
+insert_join w t (u ∷ s) zero h b e = insert_joins w t u s (sym e)
+insert_join w t (u ∷ s) (suc p) h b e =
+    insert_behind w t u s (b 0 (omega arith)) ∙ ap (λ r. u ∷ r) (insert_join w t s p (omega arith) (λ k l. b (suc k) (omega arith)) e)
 
--- The search: the place is i and the place in what is left.
-pub record Searched (m n : ℕ) (l : List ℕ) (i : ℕ) : Type 0 where
-  pub within : i ≤ n
-  pub room : n ≤ length l
-  pub at : i + place_of m (slice i n l) ≡ place_of m (take n l)
+-- Any other term is kept there.
+insert_keep : (w : ℕ) (t : Term) (s : List Term) (p : ℕ) → p ≤ length s → Precede t s p → (p < length s → t.mono < (get_or s p zero_term).mono)
+    → Kept w t s p
+unfolding insert_k
+insert_keep w t [] zero h b f = refl
+insert_keep w t [] (suc p) h b f = absurd (omega arith)
+insert_keep w t (u ∷ s) zero h b f = insert_front w t u s (f (omega arith))
+insert_keep w t (u ∷ s) (suc p) h b f =
+    insert_behind w t u s (b 0 (omega arith))
+    ∙ ap (λ r. u ∷ r) (insert_keep w t s p (omega arith) (λ k l. b (suc k) (omega arith)) (λ l. f (omega arith)))
 
-module _ (m n : ℕ) (l : List ℕ) where
-  pub search_start : n ≤ length l → Searched m n l 0
-  search_start h = record { within = omega arith; room = h; at = omega arith }
+-- The place of packed symbols: how many terms at the front precede them.
+abbrev pub place_of : ℕ → List Term → ℕ
+place_of m s = prefix_len (λ u. ltb u.mono m) s
 
-  pub search_step : (i : ℕ) → Searched m n l i → i < n → get_or l i 0 < m → Searched m n l (i + 1)
-  search_step i h k e =
-      let p : place_of m (slice i n l) ≡ suc (place_of m (slice (suc i) n l)) =
-      ap (place_of m) (slice-cons i n l 0 k h.room) ∙ place_behind m _ _ e in
-      let q : i + place_of m (slice i n l) ≡ place_of m (take n l) = h.at in
-      record { within = omega arith; room = h.room; at = rw (add-one i) (omega arith) }
-
-  pub search_found : (i : ℕ) → Searched m n l i → i < n → m ≤ get_or l i 0 → i ≡ place_of m (take n l)
-  search_found i h k e =
-      let p : place_of m (slice i n l) ≡ 0 =
-      ap (place_of m) (slice-cons i n l 0 k h.room) ∙ place_here m _ _ e in
-      let q : i + place_of m (slice i n l) ≡ place_of m (take n l) = h.at in
-      omega arith
-
-  pub search_end : (i : ℕ) → Searched m n l i → n ≤ i → i ≡ place_of m (take n l)
-  unfolding place_of
-  search_end i h k =
-      let e : i ≡ n = omega (arith, h.within) in
-      let p : place_of m (slice i n l) ≡ 0 = ap (λ k. place_of m (slice k n l)) e ∙ ap (place_of m) (slice_empty n l) in
-      let q : i + place_of m (slice i n l) ≡ place_of m (take n l) = h.at in
-      omega arith
+-- A search for the first term that does not precede the symbols m gives their place, the end where there is none.
+pub place_found : (m : ℕ) (s : List Term) (r : Option ℕ)
+    → MatchOption r (AllWithin (λ t. ltb t.mono m ≡ true) s 0 (length s))
+    (λ i. (i < length s) × HoldsAt (λ t. ltb t.mono m ≡ false) s i × AllWithin (λ t. ltb t.mono m ≡ true) s 0 i)
+    → unwrap_or r (length s) ≡ place_of m s
+place_found m s None w = sym (prefix_len_is _ s (length s) zero_term (omega arith) (λ k h. w k zero_term (omega arith) h) (λ h. absurd (omega arith)))
+place_found m s (Some i) w = sym (prefix_len_is _ s i zero_term (omega arith) (λ k h. w.2 k zero_term (omega arith) h) (λ _. w.1 zero_term))
 
 -- What the code does at the place that it found.
-
--- The place that was found is at most the count.
-pub found_within : (m n : ℕ) (l : List ℕ) (i : ℕ) → n ≤ length l → i ≡ place_of m (take n l) → i ≤ n
-found_within m n l i h e =
-    let p : length (take n l) ≡ n = length-take-le n l h in
-    let q : place_of m (take n l) ≤ length (take n l) = place_within m (take n l) in
-    omega arith
 
 -- A term of zero coefficient changes nothing.
 pub kept_zero : (t : Term) (s : List Term) (i : ℕ) → t.coef ≡ 0 → s ≡ take i s ++ keep_k t (drop i s)
 kept_zero t s i e = sym (ap (λ r. take i s ++ r) (keep_zero t (drop i s) e) ∙ take-append-drop i s)
-
--- Any other term is put before the place.
-pub kept_some : (t : Term) (s r : List Term) (i : ℕ) → (t.coef ≡ 0 → ⊥) → r ≡ take i s ++ t ∷ drop i s → r ≡ take i s ++ keep_k t (drop i s)
-kept_some t s r i e h = h ∙ ap (λ r. take i s ++ r) (sym (keep_some t (drop i s) e))
 
 -- Two terms whose coefficients add up to zero are taken out.
 pub joined_zero : (w : ℕ) (t : Term) (s r : List Term) (i c : ℕ)
@@ -174,47 +111,69 @@ joined_some w t s i c h e z =
     ∙ ap (λ r. take i s ++ r) (sym (keep_some v (drop (suc i) s) z))
     ∙ (λ x. take i s ++ keep_k (record { coef = e x; mono = (get_or s i zero_term).mono }) (drop (suc i) s))
 
+-- The terms before the place that was found precede the term.
+found_precede : (t : Term) (s : List Term) (i : ℕ) → i ≡ place_of t.mono s → Precede t s i
+found_precede t s i e k h = ltb-true _ _ (prefix_len_passes (λ u. ltb u.mono t.mono) s k zero_term (omega arith))
+
 -- What was kept at the place that was found is the insertion.
-pub inserted_kept : (w : ℕ) (t : Term) (s r : List Term) (i : ℕ) → i ≡ place_of t.mono (monos s)
+pub inserted_kept : (w : ℕ) (t : Term) (s r : List Term) (i : ℕ) → i ≡ place_of t.mono s
     → (i < length s → (get_or s i zero_term).mono ≡ t.mono → ⊥)
     → r ≡ take i s ++ keep_k t (drop i s)
     → r ≡ insert_k w t s
 inserted_kept w t s r i e h k =
-    let h' : place_of t.mono (monos s) < length s → (get_or s (place_of t.mono (monos s)) zero_term).mono ≡ t.mono → ⊥ = rw e at h in
-    k ∙ ap (λ i. take i s ++ keep_k t (drop i s)) e ∙ sym (insert_keep w t s h')
+    let b : i ≤ length s = omega (arith, prefix_len-le-length (λ u. ltb u.mono t.mono) s) in
+    k ∙ sym (insert_keep w t s i b (found_precede t s i e) above)
+  where
+    above : i < length s → t.mono < (get_or s i zero_term).mono
+    above l =
+        let f : ltb (get_or s (place_of t.mono s) zero_term).mono t.mono ≡ false = prefix_len_stops (λ u. ltb u.mono t.mono) s zero_term (omega arith) in
+        let g : ltb (get_or s i zero_term).mono t.mono ≡ false = rw e f in
+        omega (arith, ltb-false _ _ g, h l)
 
 -- What was joined at the place that was found is the insertion.
-pub inserted_joined : (w : ℕ) (t : Term) (s r : List Term) (i : ℕ) → i ≡ place_of t.mono (monos s)
+pub inserted_joined : (w : ℕ) (t : Term) (s r : List Term) (i : ℕ) → i ≡ place_of t.mono s
     → i < length s
     → (get_or s i zero_term).mono ≡ t.mono
     → r ≡ take i s ++ keep_k (joined_k w t (get_or s i zero_term)) (drop (suc i) s)
     → r ≡ insert_k w t s
-inserted_joined w t s r i e h m k =
-    let m' : (get_or s (place_of t.mono (monos s)) zero_term).mono ≡ t.mono = rw e at m in
-    k
-    ∙ ap (λ i. take i s ++ keep_k (joined_k w t (get_or s i zero_term)) (drop (suc i) s)) e
-    ∙ sym (insert_join w t s (omega arith) m')
+inserted_joined w t s r i e h m k = k ∙ sym (insert_join w t s i h (found_precede t s i e) m)
 
--- The collecting loop: what is left to collect gives the whole.
-pub record Collected (w n : ℕ) (from s g : List Term) (i : ℕ) : Type 0 where
-  pub within : i ≤ n
-  pub room : n ≤ length from
-  pub at : collect_k w (slice i n from) g ≡ collect_k w (take n from) s
+-- The collecting loop: the terms from i on are left to collect.
 
-module _ (w n : ℕ) (from s : List Term) where
-  pub collect_start : n ≤ length from → Collected w n from s s 0
-  collect_start h = record { within = omega arith; room = h; at = refl }
+pub collect_step : (w : ℕ) (from g r : List Term) (i : ℕ) → i < length from → r ≡ insert_k w (get_or from i zero_term) g
+    → collect_k w (drop (i + 1) from) r ≡ collect_k w (drop i from) g
+unfolding collect_k
+collect_step w from g r i h e =
+    rw (add-one i) (ap (collect_k w (drop (suc i) from)) e ∙ ap (λ l. collect_k w l g) (sym (drop-cons from i zero_term h)))
 
-  pub collect_step : (g r : List Term) (i : ℕ) → Collected w n from s g i → i < n → r ≡ insert_k w (get_or from i zero_term) g
-      → Collected w n from s r (i + 1)
-  unfolding collect_k
-  collect_step g r i h k e =
-      let p : collect_k w (slice i n from) g ≡ collect_k w (slice (suc i) n from) r =
-      ap (λ l. collect_k w l g) (slice-cons i n from zero_term k h.room) ∙ ap (collect_k w (slice (suc i) n from)) (sym e) in
-      record { within = omega arith; room = h.room; at = rw (add-one i) (sym p ∙ h.at) }
+pub collect_end : (w : ℕ) (from g : List Term) (i : ℕ) → length from ≤ i → collect_k w (drop i from) g ≡ g
+unfolding collect_k
+collect_end w from g i h = at_drop_all (λ l. collect_k w l g) from i h
 
-  pub collect_end : (g : List Term) (i : ℕ) → Collected w n from s g i → n ≤ i → g ≡ collect_k w (take n from) s
-  unfolding collect_k
-  collect_end g i h k =
-      let e : i ≡ n = omega (arith, h.within) in
-      ap (λ l. collect_k w l g) (sym (slice_empty n from)) ∙ ap (λ k. collect_k w (slice k n from) g) (sym e) ∙ h.at
+-- A term that is kept makes the list longer by one at most.
+keep_length : (t : Term) (s : List Term) → length (keep_k t s) ≤ length s + 1
+unfolding keep_k
+keep_length t s = split (eqb t.coef 0)
+  where
+    split : (b : Bool) → length (cond b s (t ∷ s)) ≤ length s + 1
+    split true = omega arith
+    split false = omega arith
+
+-- So does an insertion.
+pub insert_length : (w : ℕ) (t : Term) (s : List Term) → length (insert_k w t s) ≤ length s + 1
+unfolding insert_k
+insert_length w t [] = keep_length t []
+insert_length w t (u ∷ s) = split (eqb t.mono u.mono) (ltb t.mono u.mono) (insert_length w t s)
+  where
+    split : (a b : Bool) → length (insert_k w t s) ≤ length s + 1
+        → length (cond a (keep_k (joined_k w t u) s) (cond b (keep_k t (u ∷ s)) (u ∷ insert_k w t s))) ≤ suc (length s) + 1
+    split true b h = omega (arith, keep_length (joined_k w t u) s)
+    split false true h = keep_length t (u ∷ s)
+    split false false h = omega arith
+
+-- What is kept, what is joined and what is collected are proved by.
+pub ruleset keeping = (kept_zero, keep_some)
+
+pub ruleset joining = (joined_zero, joined_some)
+
+pub ruleset collecting = (collect_step, collect_end, insert_length)

@@ -10,7 +10,7 @@ use lib.ListN.{length, length-map}
 use Rattle.model.specs.Sum.{Sum, fits, same, same_sum, precedes, Rising, Terms, constant_sum, symbol_sum, add, negate, subtract, merge, multiply}
 use Rattle.model.proofs.Normal.{merge_rising, merge_length}
 use Rattle.key.specs.Key.{Small, pack, pack_on, merged_of}
-use Rattle.key.specs.declared.Merged.TheVariants.{TooMany, Packed}
+use Rattle.std.specs.Prelude.{Some, None}
 use Rattle.key.proofs.Pack.{pack_same, pack_order, pack_merged, merge_small}
 use Rattle.sum.specs.Packed.{constant_k, symbol_k, add_k, negate_k, subtract_k, multiply_k, same_k, terms_of, as_sum, pack_term, pack_sum, pack_outcome}
 use Rattle.sum.proofs.Held.{terms_as}
@@ -29,7 +29,7 @@ order : (l m : List ℕ) → Packable l → Packable m → ltb (pack l) (pack m)
 order l m h k = pack_order l m h.small k.small
 
 merged : (l m : List ℕ) → Packable l → Packable m
-    → merged_of (pack l) (pack m) ≡ cond (leb (length l + length m) 4) (Packed (pack (merge l m))) TooMany
+    → merged_of (pack l) (pack m) ≡ cond (leb (length l + length m) 4) (Some (pack (merge l m))) None
 merged l m h k = pack_merged l m h.small k.small h.rising k.rising h.short k.short
 
 merges : (l m : List ℕ) → Packable l → Packable m → length l + length m ≤ 4 → Packable (merge l m)

@@ -1,8 +1,6 @@
-pub mod Full
 pub mod Lists
 pub mod Insertion
 pub mod Held
-pub mod Arrays
 pub mod Product
 pub mod Paper
 pub mod Keyed

@@ -14,7 +14,7 @@ use Rattle.model.specs.Sum.{Term, Sum, Outcome, too_large, fits, and_then, same,
 use Rattle.model.proofs.Normal.{joined, keep_cases, insert_cases}
 use Rattle.model.proofs.Basics.{cond_fits, and_then_fits, fits_same}
 use Rattle.key.specs.Key.{merged_of}
-use Rattle.key.specs.declared.Merged.TheVariants.{TooMany, Packed}
+use Rattle.std.specs.Prelude.{Some, None}
 use Rattle.sum.specs.declared.Term as Code
 use Rattle.sum.specs.Packed.{keep_k, joined_k, insert_k, collect_k, fit_k, constant_k, symbol_k, add_k, negate_term_k, negate_k, subtract_k, merged_term_k, term_product_k, products_k, multiply_k, same_term_k, same_k, pack_term, pack_sum, pack_outcome}
 
@@ -203,7 +203,7 @@ module _ (Packs : List ℕ → Type 0) (pack : List ℕ → ℕ)
 
   module _
       (merged : (l m : List ℕ) → Packs l → Packs m
-      → merged_of (pack l) (pack m) ≡ cond (leb (length l + length m) 4) (Packed (pack (merge l m))) TooMany)
+      → merged_of (pack l) (pack m) ≡ cond (leb (length l + length m) 4) (Some (pack (merge l m))) None)
       (merges : (l m : List ℕ) → Packs l → Packs m → length l + length m ≤ 4 → Packs (merge l m)) where
     -- The product of two terms.
     term_product_packed : (w : ℕ) (t u : Term) → Packs t.symbols → Packs u.symbols
@@ -221,7 +221,7 @@ module _ (Packs : List ℕ → Type 0) (pack : List ℕ → ℕ)
 
         split : (a b : Bool)
             → pack_outcome pack (cond a (fits []) (cond b (fits (record { coefficient = c; symbols = l } ∷ [])) too_large))
-            ≡ cond a (fits []) (merged_term_k c (cond b (Packed (pack l)) TooMany))
+            ≡ cond a (fits []) (merged_term_k c (cond b (Some (pack l)) None))
         split true b = refl
         split false true = refl
         split false false = refl

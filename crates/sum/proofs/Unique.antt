@@ -2,6 +2,8 @@
 -- contract, `Post`. Assumes nothing.
 use mathlib.Core.Path.{◌≡◌}
 use Rattle.model.proofs.Basics.{one_answer}
+use Rattle.sum.proofs.Sum.terms.Reads as terms
+use Rattle.sum.proofs.SumTryFromRefSliceTerm.try_from.Reads as try_from
 use Rattle.sum.proofs.Sum.empty.Reads as empty
 use Rattle.sum.proofs.Sum.constant.Reads as constant
 use Rattle.sum.proofs.Sum.symbol.Reads as symbol
@@ -10,6 +12,12 @@ use Rattle.sum.proofs.Sum.negate.Reads as negate
 use Rattle.sum.proofs.Sum.subtract.Reads as subtract
 use Rattle.sum.proofs.Sum.multiply.Reads as multiply
 use Rattle.sum.proofs.Sum.same.Reads as same
+
+pub terms_unique : (κs : _) (a : _) (r r' : _) (s s' : _) → terms.Post κs a r s → terms.Post κs a r' s' → r.now ≡ r'.now
+terms_unique κs a r r' s s' p q = one_answer p q
+
+pub try_from_unique : (κs : _) (a : _) (r r' : _) (s s' : _) → try_from.Post κs a r s → try_from.Post κs a r' s' → r ≡ r'
+try_from_unique κs a r r' s s' p q = one_answer p q
 
 pub empty_unique : (κs : _) (a : _) (r r' : _) (s s' : _) → empty.Post κs a r s → empty.Post κs a r' s' → r ≡ r'
 empty_unique κs a r r' s s' p q = one_answer p q

@@ -1,19 +1,14 @@
 -- The operations of a normal sum (01, "The normal sum"; `model`, Sum) on packed terms, where one number stands for the list of
 -- symbols, and how a struct of the code holds a list of terms. `mono` is the packed list: its order as a number is the paper's
 -- order of symbol lists, and 0 is the empty list. Every operation is over the width w; the base is 32. Assumes nothing.
-use Rattle.std.specs.Prelude.{ℕ, suc, ◌-◌, ◌*◌, ◌≤◌, min, Bool, cond, ◌&&◌, List, [], ◌∷◌, ◌++◌, map, leb, ltb, eqb, length, take, replicate}
+use Rattle.std.specs.Prelude.{ℕ, ◌-◌, ◌*◌, min, Bool, cond, ◌&&◌, List, [], ◌∷◌, ◌++◌, map, leb, ltb, eqb, length, take, replicate, Option, Some, None, Result, Ok, Err}
 use Rattle.model.specs.Word.{wrap, plus, times, negated}
 use Rattle.model.specs.Sum as Model
 use Rattle.model.specs.Sum.{Outcome, too_large, fits, and_then, same}
 use Rattle.key.specs.Key.{merged_of}
-use Rattle.key.specs.declared.Merged.{Merged}
-use Rattle.key.specs.declared.Merged.TheVariants.{TooMany, Packed}
 use Rattle.sum.specs.declared.Term.{Term}
 use Rattle.sum.specs.declared.Sum.{Sum}
-use Rattle.sum.specs.declared.Grown.{Grown}
-use Rattle.sum.specs.declared.Added.{Added}
-use Rattle.sum.specs.declared.Size.{Size}
-use Rattle.sum.specs.declared.Size.TheVariants.{Fits, TooLarge}
+use Rattle.sum.specs.declared.TooLarge.{TooLarge}
 
 -- A term in front of a sum, dropped where its coefficient is zero.
 unfoldable pub keep_k : Term → List Term → List Term
@@ -64,9 +59,9 @@ unfoldable pub subtract_k : ℕ → List Term → List Term → Outcome (List Te
 subtract_k w s t = fit_k (collect_k w (negate_k w t) s)
 
 -- A coefficient with merged symbols is one term; too many symbols are too large.
-unfoldable pub merged_term_k : ℕ → Merged → Outcome (List Term)
-merged_term_k c TooMany = too_large
-merged_term_k c (Packed m) = fits (record { coef = c; mono = m } ∷ [])
+unfoldable pub merged_term_k : ℕ → Option ℕ → Outcome (List Term)
+merged_term_k c None = too_large
+merged_term_k c (Some m) = fits (record { coef = c; mono = m } ∷ [])
 
 -- The product of two terms: nothing where its coefficient is zero, and otherwise too large where it has more than 4 symbols.
 unfoldable pub term_product_k : ℕ → Term → Term → Outcome (List Term)
@@ -110,45 +105,14 @@ terms_of s = take (min s.n 16) s.terms
 unfoldable pub as_sum : List Term → Sum
 as_sum l = record { n = length l; terms = l ++ replicate (16 - length l) zero_term }
 
--- A list of coefficients and a list of packed symbols as terms, place by place.
-unfoldable pub paired : List ℕ → List ℕ → List Term
-paired [] ms = []
-paired (c ∷ cs) [] = []
-paired (c ∷ cs) (m ∷ ms) = record { coef = c; mono = m } ∷ paired cs ms
-
--- Two arrays, one of coefficients and one of packed symbols, have room for n terms.
-pub record Room (n : ℕ) (cs ms : List ℕ) : Type 0 where
-  pub coefs : n ≤ length cs
-  pub monos : n ≤ length ms
-
--- The terms that are collected: the first n of the two arrays.
-unfoldable pub gathered : List ℕ → List ℕ → ℕ → List Term
-gathered cs ms n = take n (paired cs ms)
-
 -- Terms that are collected into a sum, or too large.
 unfoldable pub gather_k : ℕ → Outcome (List Term) → List Term → Outcome (List Term)
 gather_k w o g = and_then o (λ ts. fits (collect_k w ts g))
 
--- What a size says of a list of terms.
-unfoldable pub sized_of : Size → List Term → Outcome (List Term)
-sized_of Fits l = fits l
-sized_of TooLarge l = too_large
-
--- The terms that are collected where each product was a term, or too large.
-unfoldable pub grown_of : List ℕ → List ℕ → Grown → Outcome (List Term)
-grown_of cs ms r = sized_of r.size (gathered cs ms r.n)
-
--- What an operation answers: the sum that fits, or too large with the empty sum.
-unfoldable pub added_of : Outcome (List Term) → Added
-added_of too_large = record { size = TooLarge; sum = as_sum [] }
-added_of (fits l) = record { size = Fits; sum = as_sum l }
-
--- The first place of a list of packed symbols that do not precede the given ones.
-unfoldable pub place_of : ℕ → List ℕ → ℕ
-place_of m [] = 0
-place_of m (u ∷ ms) =
-    let later = place_of m ms in
-    cond (ltb u m) (suc later) 0
+-- What an operation answers: the sum that fits, or too large.
+unfoldable pub added_of : Outcome (List Term) → Result Sum TooLarge
+added_of too_large = Err record {}
+added_of (fits l) = Ok (as_sum l)
 
 -- A term of the paper with its symbols packed, by a function that packs lists of symbols.
 unfoldable pub pack_term : (List ℕ → ℕ) → Model.Term → Term

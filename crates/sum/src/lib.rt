@@ -1,281 +1,148 @@
 // Normal sums as the code holds them: at most 16 terms, each a coefficient and its symbols packed into one number. Sums are added,
 // subtracted, negated, multiplied and compared. Each contract is an equation on the whole answer with the definitions of specs/Packed; a count
-// over 16 is read as 16, and entries past the count of a result are zero. Terms are collected in two lent arrays, coefs and monos, of which
-// the first n entries count. Assumes nothing.
+// over 16 is read as 16, and entries past the count of a result are zero. Terms are collected in a vector of fixed capacity. Assumes nothing.
 #![tactic(auto)]
 
-ghost use Rattle.std.specs.Prelude.{◌≡◌, [], ◌∷◌, ◌++◌, suc, ◌+◌, ◌-◌, ◌≤◌, ◌<◌, min, length, take, drop, get_or, replicate};
+ghost use Rattle.std.specs.Prelude.{◌≡◌, ◌+◌, ◌≤◌, ◌<◌, [], ◌++◌, suc, ltb, OnOk, OnErr, length, take, drop, get_or};
+ghost use Rattle.std.specs.List.{prefix_len};
 ghost use Rattle.model.specs.Word.{base};
-ghost use Rattle.model.specs.Sum.{too_large};
-ghost use Rattle.sum.specs.Packed.{keep_k, joined_k, insert_k, collect_k, fit_k, constant_k, symbol_k, add_k, negate_k, subtract_k, term_product_k, products_k, multiply_k, same_k, zero_term, terms_of, as_sum, Room, gathered, gather_k, grown_of, added_of, place_of};
+ghost use Rattle.model.specs.Sum.{fits, too_large};
+ghost use Rattle.sum.specs.Packed.{keep_k, joined_k, insert_k, fit_k, constant_k, symbol_k, add_k, negate_k, subtract_k, term_product_k, products_k, multiply_k, same_k, zero_term, terms_of, as_sum, gather_k, added_of};
 
-use key::Merged;
+use arrayvec::ArrayVec;
 
 // A coefficient, and the packed list of its symbols.
-#[derive(Clone, Copy)]
+#[derive(Clone, Copy, Default, PartialEq, Eq)]
 pub struct Term {
     pub coef: u32,
     pub mono: u32,
 }
 
 // At most 16 terms; entries past n are not read.
-#[derive(Clone, Copy)]
+// Stays: a count over 16 is read as 16 (`terms_of`, in the clauses of `add`, `negate` and the others), which a vector of fixed capacity would refuse, and
+// a sum is copied.
+#[derive(Clone, Copy, Default)]
 pub struct Sum {
     pub n: usize,
     pub terms: [Term; 16],
 }
 
-// Whether an operation's result fits a sum.
-#[derive(Clone, Copy)]
-pub enum Size {
-    Fits,
-    TooLarge,
-}
-
-// How many terms are collected, and whether each product was one of at most 4 symbols.
-#[derive(Clone, Copy)]
-struct Grown {
-    n: usize,
-    size: Size,
-}
-
-// What an operation answers: the sum, which is empty where it is too large.
-#[derive(Clone, Copy)]
-pub struct Added {
-    pub sum: Sum,
-    pub size: Size,
-}
-
-// The entries of the empty sum.
-fn blank() -> [Term; 16]
-    ensures { result ≡ replicate 16 zero_term }
-{
-    let zero = Term { coef: 0, mono: 0 };
-    [zero; 16]
-}
-
-// The number of terms that a count stands for.
-fn count(n: usize) -> usize
-    ensures { result ≡ min n 16 }
-{
-    if n < Sum::TERMS { n } else { Sum::TERMS }
-}
+// A sum that does not fit: more than 16 terms, or a term of more than 4 symbols.
+#[derive(Clone, Copy, PartialEq, Eq)]
+pub struct TooLarge;
 
 // The first place whose symbols do not precede the given ones.
-fn place(monos: &[u32], n: usize, mono: u32) -> usize
-    requires { n ≤ length monos.now }
-    ensures { result ≡ place_of mono (take n monos.now) }
+fn place(ts: &[Term], mono: u32) -> usize
+    ensures at { result ≡ prefix_len (λ t. ltb t.mono mono) ts.now }
+    ensures within { result ≤ length ts.now }
 {
-    let mut i = 0;
-    while i < n {
-        if monos[i] >= mono {
-            return i;
-        }
-        i += 1;
-    }
-    i
-}
-
-// A number is put before place i of the first n.
-fn put_before(xs: &mut [u32], n: usize, i: usize, x: u32)
-    requires { (i ≤ n) × (n < length xs.old) }
-    ensures { take (n + 1) xs.new ≡ take i (take n xs.old) ++ x ∷ drop i (take n xs.old) }
-{
-    let mut carry = x;
-    let mut j = i;
-    while j < n {
-        let next = xs[j];
-        xs[j] = carry;
-        carry = next;
-        j += 1;
-    }
-    xs[n] = carry;
-}
-
-// The number at place i of the first n is taken out.
-fn take_out(xs: &mut [u32], n: usize, i: usize)
-    requires { (i < n) × (n ≤ length xs.old) }
-    ensures { take (n - 1) xs.new ≡ take i (take n xs.old) ++ drop (suc i) (take n xs.old) }
-{
-    let last = n - 1;
-    let mut j = i;
-    while j < last {
-        let next = xs[j + 1];
-        xs[j] = next;
-        j += 1;
-    }
+    ts.iter().position(|t| t.mono >= mono).unwrap_or(ts.len())
 }
 
 // A term is put before place i, unless its coefficient is zero.
-fn kept(coefs: &mut [u32], monos: &mut [u32], n: usize, i: usize, t: Term) -> usize
-    requires { Room (n + 1) coefs.old monos.old × (i ≤ n) }
-    ensures { (gathered coefs.new monos.new result ≡ take i (gathered coefs.old monos.old n) ++ keep_k t (drop i (gathered coefs.old monos.old n))) × (result ≤ n + 1) }
+#[tactic(auto, using(crate::proofs::Insertion::keeping))]
+fn keep<const N: usize>(ts: &mut ArrayVec<Term, N>, i: usize, t: Term)
+    requires within { i ≤ length ts.old.items }
+    requires room { length ts.old.items < N }
+    ensures { ts.new.items ≡ take i ts.old.items ++ keep_k t (drop i ts.old.items) }
 {
-    if t.coef == 0 {
-        return n;
+    if t.coef != 0 {
+        ts.insert(i, t);
     }
-    put_before(coefs, n, i, t.coef);
-    put_before(monos, n, i, t.mono);
-    n + 1
 }
 
 // A term is joined with the one at place i, which has the same symbols.
-fn join(coefs: &mut [u32], monos: &mut [u32], n: usize, i: usize, t: Term) -> usize
-    requires { Room n coefs.old monos.old × (i < n) }
-    ensures { (gathered coefs.new monos.new result ≡ take i (gathered coefs.old monos.old n) ++ keep_k (joined_k base t (get_or (gathered coefs.old monos.old n) i zero_term)) (drop (suc i) (gathered coefs.old monos.old n))) × (result ≤ n + 1) }
+#[tactic(auto, using(crate::proofs::Insertion::joining))]
+fn join<const N: usize>(ts: &mut ArrayVec<Term, N>, i: usize, t: Term)
+    requires { i < length ts.old.items }
+    ensures { ts.new.items ≡ take i ts.old.items ++ keep_k (joined_k base t (get_or ts.old.items i zero_term)) (drop (suc i) ts.old.items) }
 {
-    let joined = word::plus(t.coef, coefs[i]);
+    let joined = word::plus(t.coef, ts[i].coef);
     if joined == 0 {
-        take_out(coefs, n, i);
-        take_out(monos, n, i);
-        return n - 1;
+        ts.remove(i);
+    } else {
+        ts[i].coef = joined;
     }
-    coefs[i] = joined;
-    n
 }
 
 // A term is collected.
-fn insert(coefs: &mut [u32], monos: &mut [u32], n: usize, t: Term) -> usize
-    requires { Room (n + 1) coefs.old monos.old }
-    ensures { (gathered coefs.new monos.new result ≡ insert_k base t (gathered coefs.old monos.old n)) × (result ≤ n + 1) }
+fn insert<const N: usize>(ts: &mut ArrayVec<Term, N>, t: Term)
+    requires { length ts.old.items < N }
+    ensures { ts.new.items ≡ insert_k base t ts.old.items }
 {
-    let i = place(monos, n, t.mono);
-    if i >= n {
-        return kept(coefs, monos, n, i, t);
-    }
-    if monos[i] == t.mono {
-        return join(coefs, monos, n, i, t);
-    }
-    kept(coefs, monos, n, i, t)
-}
-
-// A sum's terms, collected before any other.
-fn load(coefs: &mut [u32], monos: &mut [u32], s: Sum) -> usize
-    requires { Room 16 coefs.old monos.old }
-    ensures { (gathered coefs.new monos.new result ≡ terms_of s) × (result ≤ 16) }
-{
-    let n = count(s.n);
-    let from = s.terms;
-    let mut i = 0;
-    while i < n {
-        let t = from[i];
-        coefs[i] = t.coef;
-        monos[i] = t.mono;
-        i += 1;
-    }
-    n
-}
-
-// A sum's terms are collected in turn.
-fn collect(coefs: &mut [u32], monos: &mut [u32], n: usize, s: Sum) -> usize
-    requires { Room (n + 16) coefs.old monos.old }
-    ensures { (gathered coefs.new monos.new result ≡ collect_k base (terms_of s) (gathered coefs.old monos.old n)) × (result ≤ n + 16) }
-{
-    let m = count(s.n);
-    let from = s.terms;
-    let mut out = n;
-    let mut i = 0;
-    while i < m {
-        let t = from[i];
-        out = insert(coefs, monos, out, t);
-        i += 1;
-    }
-    out
-}
-
-// The answer where a sum is too large.
-fn too_large() -> Added
-    ensures { result ≡ added_of too_large }
-{
-    let sum = Sum::empty();
-    Added {
-        size: Size::TooLarge,
-        sum: sum,
+    let i = place(ts, t.mono);
+    if i < ts.len() && ts[i].mono == t.mono {
+        join(ts, i, t);
+    } else {
+        keep(ts, i, t);
     }
 }
 
-// The sum that collected terms make, if they are at most 16.
-fn fit(coefs: &[u32], monos: &[u32], n: usize) -> Added
-    requires { Room n coefs.now monos.now }
-    ensures { result ≡ added_of (fit_k (gathered coefs.now monos.now n)) }
+// The sum of at most 16 terms.
+fn holding(ts: &[Term]) -> Sum
+    requires { length ts.now ≤ 16 }
+    ensures { result ≡ as_sum ts.now }
 {
-    if n > Sum::TERMS {
-        return too_large();
-    }
-    let mut ts = blank();
-    let mut i = 0;
-    while i < n {
-        ts[i] = Term {
-            coef: coefs[i],
-            mono: monos[i],
-        };
-        i += 1;
-    }
-    Added {
-        size: Size::Fits,
-        sum: Sum { n: n, terms: ts },
+    let mut terms = [Term::default(); 16];
+    terms[..ts.len()].copy_from_slice(ts);
+    Sum { n: ts.len(), terms }
+}
+
+// The sum that terms make, if they are at most 16.
+impl TryFrom<&[Term]> for Sum {
+    type Error = TooLarge;
+
+    ghost try_from_gives = { λ ts r. r ≡ added_of (fit_k ts.now) };
+
+    #[tactic(auto, unfolding(crate::specs::Packed::fit_k, crate::specs::Packed::added_of))]
+    fn try_from(ts: &[Term]) -> Result<Sum, TooLarge> {
+        if ts.len() > Sum::TERMS {
+            return Err(TooLarge);
+        }
+        Ok(holding(ts))
     }
 }
 
 // The product of two terms is collected.
-fn grow(coefs: &mut [u32], monos: &mut [u32], n: usize, t: Term, u: Term) -> Grown
-    requires { Room (n + 1) coefs.old monos.old }
-    ensures { (grown_of coefs.new monos.new result ≡ gather_k base (term_product_k base t u) (gathered coefs.old monos.old n)) × (result.n ≤ n + 1) }
+#[tactic(auto, using(crate::proofs::Product::one_product, crate::proofs::Insertion::insert_length))]
+fn grow<const N: usize>(ts: &mut ArrayVec<Term, N>, t: Term, u: Term) -> Result<(), TooLarge>
+    requires { length ts.old.items < N }
+    ensures ok { OnOk result (fits ts.new.items ≡ gather_k base (term_product_k base t u) ts.old.items) }
+    ensures few { OnOk result (length ts.new.items ≤ length ts.old.items + 1) }
+    ensures err { OnErr result (too_large ≡ gather_k base (term_product_k base t u) ts.old.items) }
 {
     let product = word::times(t.coef, u.coef);
     if product == 0 {
-        return Grown {
-            size: Size::Fits,
-            n: n,
-        };
+        return Ok(());
     }
-    match key::merge(t.mono, u.mono) {
-        Merged::TooMany => Grown {
-            size: Size::TooLarge,
-            n: n,
+    let Some(mono) = key::merge(t.mono, u.mono) else {
+        return Err(TooLarge);
+    };
+    insert(
+        ts,
+        Term {
+            coef: product,
+            mono,
         },
-        Merged::Packed(mono) => {
-            let next = insert(
-                coefs,
-                monos,
-                n,
-                Term {
-                    coef: product,
-                    mono: mono,
-                },
-            );
-            Grown {
-                size: Size::Fits,
-                n: next,
-            }
-        }
-    }
+    );
+    Ok(())
 }
 
-// The products of a term with each term of a sum are collected.
-fn grow_row(coefs: &mut [u32], monos: &mut [u32], n: usize, t: Term, s: Sum) -> Grown
-    requires { Room (n + min s.n 16) coefs.old monos.old }
-    ensures { (grown_of coefs.new monos.new result ≡ gather_k base (products_k (term_product_k base t) (terms_of s)) (gathered coefs.old monos.old n)) × (result.n ≤ n + min s.n 16) }
+// The products of a term with each of others are collected.
+fn grow_row<const N: usize>(
+    ts: &mut ArrayVec<Term, N>,
+    t: Term,
+    us: &[Term],
+) -> Result<(), TooLarge>
+    requires { length ts.old.items + length us.now ≤ N }
+    ensures ok { OnOk result (fits ts.new.items ≡ gather_k base (products_k (term_product_k base t) us.now) ts.old.items) }
+    ensures few { OnOk result (length ts.new.items ≤ length ts.old.items + length us.now) }
+    ensures err { OnErr result (too_large ≡ gather_k base (products_k (term_product_k base t) us.now) ts.old.items) }
 {
-    let m = count(s.n);
-    let from = s.terms;
-    let mut out = n;
-    let mut i = 0;
-    while i < m {
-        let u = from[i];
-        let next = grow(coefs, monos, out, t, u);
-        let size = next.size;
-        match size {
-            Size::TooLarge => return next,
-            Size::Fits => {}
-        }
-        out = next.n;
-        i += 1;
+    for u in us {
+        grow(ts, t, *u)?;
     }
-    Grown {
-        size: Size::Fits,
-        n: out,
-    }
+    Ok(())
 }
 
 impl Sum {
@@ -286,127 +153,94 @@ impl Sum {
     // The most products of two terms that a product of sums has.
     pub const PRODUCTS: usize = 64;
 
+    // The terms: the entries before n.
+    #[tactic(auto, unfolding(crate::specs::Packed::terms_of))]
+    pub fn terms(&self) -> &[Term]
+        ensures { result.now ≡ terms_of self.now }
+    {
+        &self.terms[..self.n.min(Sum::TERMS)]
+    }
+
     // The empty sum, which is zero.
     pub fn empty() -> Sum
         ensures { result ≡ as_sum [] }
     {
-        let ts = blank();
-        Sum { n: 0, terms: ts }
+        holding(&[])
     }
 
     // A constant.
+    #[tactic(auto, using(crate::proofs::Held::constants))]
     pub fn constant(c: u32) -> Sum
         ensures { result ≡ as_sum (constant_k base c) }
     {
         if c == 0 {
             return Sum::empty();
         }
-        let mut ts = blank();
-        ts[0] = Term { coef: c, mono: 0 };
-        Sum { n: 1, terms: ts }
+        holding(&[Term { coef: c, mono: 0 }])
     }
 
     // The sum of one term with the packed symbols given, and coefficient 1.
+    #[tactic(auto, unfolding(crate::specs::Packed::symbol_k))]
     pub fn symbol(mono: u32) -> Sum
         ensures { result ≡ as_sum (symbol_k mono) }
     {
-        let mut ts = blank();
-        ts[0] = Term {
-            coef: 1,
-            mono: mono,
-        };
-        Sum { n: 1, terms: ts }
+        holding(&[Term { coef: 1, mono }])
     }
 
     // The sum of two sums.
-    pub fn add(self, other: Sum) -> Added
+    #[tactic(auto, using(crate::proofs::Held::terms_most, crate::proofs::Insertion::collecting), unfolding(crate::specs::Packed::add_k))]
+    pub fn add(self, other: Sum) -> Result<Sum, TooLarge>
         ensures { result ≡ added_of (add_k base (terms_of self) (terms_of other)) }
     {
-        let mut coefs = [0u32; 32];
-        let mut monos = [0u32; 32];
-        let n = load(&mut coefs, &mut monos, self);
-        let m = collect(&mut coefs, &mut monos, n, other);
-        fit(&coefs, &monos, m)
+        let mut ts = ArrayVec::<Term, 32>::new();
+        ts.try_extend_from_slice(self.terms()).unwrap();
+        for t in other.terms() {
+            insert(&mut ts, *t);
+        }
+        Sum::try_from(ts.as_slice())
     }
 
     // The negation of a sum.
+    #[tactic(auto, using(crate::proofs::Held::terms_most))]
     pub fn negate(self) -> Sum
         ensures { result ≡ as_sum (negate_k base (terms_of self)) }
     {
-        let n = count(self.n);
-        let from = self.terms;
-        let mut ts = blank();
-        let mut i = 0;
-        while i < n {
-            let t = from[i];
-            let coef = word::negated(t.coef);
-            ts[i] = Term {
-                coef: coef,
-                mono: t.mono,
-            };
-            i += 1;
+        let mut s = holding(self.terms());
+        for t in &mut s.terms {
+            t.coef = word::negated(t.coef);
         }
-        Sum { n: n, terms: ts }
+        s
     }
 
     // The difference of two sums.
-    pub fn subtract(self, other: Sum) -> Added
+    #[tactic(auto, using(crate::proofs::Held::negated_terms), unfolding(crate::specs::Packed::add_k, crate::specs::Packed::subtract_k))]
+    pub fn subtract(self, other: Sum) -> Result<Sum, TooLarge>
         ensures { result ≡ added_of (subtract_k base (terms_of self) (terms_of other)) }
     {
         self.add(other.negate())
     }
 
     // The product of two sums.
-    pub fn multiply(self, other: Sum) -> Added
+    pub fn multiply(self, other: Sum) -> Result<Sum, TooLarge>
         ensures { result ≡ added_of (multiply_k base (terms_of self) (terms_of other)) }
     {
-        let n = count(self.n);
-        let m = count(other.n);
-        if n * m > Sum::PRODUCTS {
-            return too_large();
+        let ts = self.terms();
+        let us = other.terms();
+        if ts.len() * us.len() > Sum::PRODUCTS {
+            return Err(TooLarge);
         }
-        let from = self.terms;
-        let mut coefs = [0u32; 64];
-        let mut monos = [0u32; 64];
-        let mut out = 0;
-        let mut i = 0;
-        while i < n {
-            let t = from[i];
-            let next = grow_row(&mut coefs, &mut monos, out, t, other);
-            let size = next.size;
-            match size {
-                Size::TooLarge => return too_large(),
-                Size::Fits => {}
-            }
-            out = next.n;
-            i += 1;
+        let mut all = ArrayVec::<Term, 64>::new();
+        for t in ts {
+            grow_row(&mut all, *t, us)?;
         }
-        fit(&coefs, &monos, out)
+        Sum::try_from(all.as_slice())
     }
 
     // Whether two sums are the same, term by term.
-    pub fn same(self, other: Sum) -> bool
-        ensures { result ≡ same_k (terms_of self) (terms_of other) }
+    #[tactic(auto, using(crate::proofs::Held::same_slices), unfolding(crate::specs::Packed::same_term_k))]
+    pub fn same(&self, other: &Sum) -> bool
+        ensures { result ≡ same_k (terms_of self.now) (terms_of other.now) }
     {
-        let n = count(self.n);
-        let m = count(other.n);
-        if n != m {
-            return false;
-        }
-        let ts = self.terms;
-        let us = other.terms;
-        let mut i = 0;
-        while i < n {
-            let t = ts[i];
-            let u = us[i];
-            if t.coef != u.coef {
-                return false;
-            }
-            if t.mono != u.mono {
-                return false;
-            }
-            i += 1;
-        }
-        true
+        self.terms() == other.terms()
     }
 }

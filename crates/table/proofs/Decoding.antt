@@ -13,7 +13,13 @@ use Rattle.model.specs.Run.{is_stop}
 use Rattle.model.proofs.Basics.{then_first, then_second, Facts, check_facts}
 use Rattle.model.proofs.CheckedTable.{state_sound, action_sound, edge_sound}
 use Rattle.table.specs.Checks.{state_record, edge_record, action_record}
+use Rattle.model.specs.Word.{Kind, equal, signed_less, unsigned_less}
+use Rattle.model.specs.Table as Model
+use Rattle.word.specs.Kinds.{kind_of, kind_as}
+use Rattle.table.specs.Decoded.{state_by, state_as, state_meant, action_by, action_as, action_meant}
 use Rattle.table.specs.declared.StateRecord.{StateRecord}
+use Rattle.table.specs.declared.decoded.State.{State}
+use Rattle.table.specs.declared.decoded.Action.{Action}
 use Rattle.table.specs.declared.EdgeRecord.{EdgeRecord}
 use Rattle.table.specs.declared.ActionRecord.{ActionRecord}
 
@@ -218,3 +224,33 @@ module _ (image : List ℕ) (passed : table_fault image ≡ sound) where
     pub action_is : {r : ActionRecord} → r ≡ action_record image (word image 7) i
         → action_at image i ≡ action_of (code_area image) r.kind r.a r.b
     action_is e = action_decoded image i actions_begin e
+
+-- A record's state and action stand for what the model decodes.
+
+kind_back : (q : Kind) → kind_of (kind_as q) ≡ q
+unfolding kind_of kind_as
+kind_back equal = refl
+kind_back signed_less = refl
+kind_back unsigned_less = refl
+
+meant_by : (image : List ℕ) (k : ℕ) (r : StateRecord) → state_meant image (state_by k r) ≡ state_of image k r.left r.right r.on_true r.on_false
+unfolding state_meant state_by state_of
+meant_by image zero r = refl
+meant_by image (suc zero) r = refl
+meant_by image (suc (suc k)) r = rw (kind_back (Model.kind_of k)) refl
+
+pub state_meant_lem : (image : List ℕ) (i : ℕ) {r : StateRecord} {s : State} → r ≡ state_record image i → s ≡ state_as r
+    → table_of image i ≡ state_meant image s
+unfolding state_as
+state_meant_lem image i {r} e p = state_decoded image i e ∙ sym (ap (state_meant image) p ∙ meant_by image r.kind r)
+
+action_meant_by : (code : List ℕ) (k : ℕ) (r : ActionRecord) → action_meant code (action_by k r) ≡ action_of code k r.a r.b
+unfolding action_meant action_by action_of
+action_meant_by code zero r = refl
+action_meant_by code (suc zero) r = refl
+action_meant_by code (suc (suc k)) r = refl
+
+pub action_meant_lem : (image : List ℕ) (i : ℕ) {at : ℕ} {r : ActionRecord} {a : Action} → at ≡ actions_at image → r ≡ action_record image at i
+    → a ≡ action_as r → action_at image i ≡ action_meant (code_area image) a
+unfolding action_as
+action_meant_lem image i {at} {r} q e p = action_decoded image i q e ∙ sym (ap (action_meant (code_area image)) p ∙ action_meant_by (code_area image) r.kind r)

@@ -1,4 +1,5 @@
+pub mod Words
 pub mod Decoding
-pub mod Areas
+pub mod Setting
 pub mod Records
 pub mod Unique

@@ -2,29 +2,32 @@
 -- give, each from what was read and tested. Assumes nothing.
 use Prim.Native.Nat.{ℕ, zero, suc, ◌+◌, ◌-◌, ◌*◌, ◌≤◌, ◌<◌}
 use mathlib.Core.Path.{◌≡◌, refl, sym, ◌∙◌, ap}
+use mathlib.Core.Logic.{◌⊎◌, inl, inr}
 use mathlib.Core.Bool.{Bool, true, false}
 use mathlib.Core.List.{List, [], ◌∷◌, map}
 use native.Mathlib.Omega.{arith}
-use lib.Dec.{leb, ltb, eqb}
 use lib.ListN.{length, take, drop, drop_of_length-le, length-drop}
 use lib.Seq.{take_all, take-nil}
-use borrow.Author.Tests.{leb-true, leb-false, ltb-true, ltb-false, eqb-true, eqb-false}
-use Rattle.model.specs.Answer.{Fault, sound, number_of, ◌then◌, first_of, up_to, le, lt, is, so, all_kept, check, word, wrong_state, wrong_action, wrong_edge, wrong_table}
-use Rattle.model.specs.Expr.{is_parsed, read_at}
-use Rattle.model.specs.Table.{Action, states, edges, actions, edges_at, actions_at, code_area, start_fault, state_rules, state_starts, state_fault, action_rules, action_starts, action_fault, action_of, action_at, edge_at, edge_fault, variables_set, distinct, header_rules, table_fault}
+use Rattle.model.specs.Answer.{Fault, sound, ◌then◌, first_of, up_to, le, lt, so, all_kept, check, word, wrong_state, wrong_action, wrong_edge, wrong_table}
+use Rattle.model.specs.Expr.{Reading, malformed, parsed, is_parsed}
+use Rattle.model.specs.Table.{states, edges, actions, edges_at, actions_at, code_area, start_fault, state_rules, state_starts, state_fault, action_rules, action_starts, action_fault, action_at, edge_at, edge_fault, variables_set, distinct, header_rules, table_fault}
 use Rattle.expr.proofs.Reading.{from, from_drop, length_from}
-use Rattle.fault.specs.Fault.{checked_of}
-use Rattle.fault.specs.declared.Checked.{Checked}
-use Rattle.fault.specs.declared.Checked.TheVariants.{Sound, Broken}
-use Rattle.fault.proofs.Rules.{all_kept_lem, not_kept, decided, refused, passed, first_broken, first_sound, facts_kept, then_sound, so_kept}
-use Rattle.table.specs.Checks.{Cut, edge_rules, set_of, fault_in, state_record, edge_record, action_record}
+use Rattle.std.specs.Prelude.{Option, is_some, Ok, Err}
+use Rattle.expr.specs.Answers.{extent_of}
+use Rattle.fault.specs.Fault.{fault_at, checked_of}
+use Rattle.fault.specs.declared.Fault as declared
+use Rattle.fault.proofs.Rules.{Checked, refused, passed, first_broken, first_sound, facts_kept, then_sound, so_kept}
+use Rattle.table.specs.Checks.{edge_rules, state_record, edge_record, action_record}
+use Rattle.word.specs.declared.Kind.{Kind}
+use Rattle.table.specs.Decoded.{state_by, state_as, action_by, action_as}
+use Rattle.table.specs.declared.decoded.State.{State}
+use Rattle.table.specs.declared.decoded.State.TheVariants.{Stop, Step, Test}
+use Rattle.table.specs.declared.decoded.Action.{Action}
+use Rattle.table.specs.declared.decoded.Action.TheVariants.{Assign, Read, Write}
 use Rattle.table.specs.declared.StateRecord.{StateRecord}
 use Rattle.table.specs.declared.EdgeRecord.{EdgeRecord}
 use Rattle.table.specs.declared.ActionRecord.{ActionRecord}
-use Rattle.table.specs.declared.Offsets.{Offsets}
-use Rattle.table.specs.declared.Area.TheVariants.{States, Actions, Edges}
-use Rattle.table.specs.declared.Set.TheVariants.{Nothing, Variable}
-use Rattle.table.proofs.Decoding.{from_two, edges_from, actions_from, edge_words_lem, action_words_lem}
+use Rattle.table.proofs.Decoding.{edges_from, actions_from, edge_words_lem, action_words_lem}
 
 -- Where an area ends, from what was read.
 
@@ -49,66 +52,29 @@ area_short l {n} {at} {a} {w} p q h =
 
 -- An expression by its start.
 
-pub start_sound : {b : Bool} (code : List ℕ) (start : ℕ) → b ≡ is_parsed (read_at code start) → b ≡ true
-    → Sound ≡ checked_of (start_fault code start)
-unfolding start_fault checked_of
-start_sound code start e h = let q : is_parsed (read_at code start) ≡ true = cc in rw q
-
-pub start_broken : {b : Bool} (code : List ℕ) (start : ℕ) → b ≡ is_parsed (read_at code start) → b ≡ false
-    → Broken 5 start ≡ checked_of (start_fault code start)
-unfolding start_fault checked_of number_of
-start_broken code start e h = let q : is_parsed (read_at code start) ≡ false = cc in rw q
+pub parsed_extent : (p : Reading) {r : Option ℕ} → r ≡ extent_of p → is_some r ≡ is_parsed p
+unfolding is_parsed extent_of
+parsed_extent malformed e = rw e refl
+parsed_extent (parsed x n) e = rw e refl
 
 -- States.
 
-module _ (e k l r t f : ℕ) where
-  pub plain_refused : k < 2 → (l ≡ 0 → r ≡ 0 → f ≡ 0 → ⊥) → false ≡ all_kept (state_rules e k l r t f)
-  unfolding state_rules
-  plain_refused h g = choice k h
-    where
-      choice : (k : ℕ) → k < 2 → false ≡ all_kept (state_rules e k l r t f)
-      choice zero h = not_kept (state_rules e 0 l r t f) (λ (u : (l ≡ 0) × ((r ≡ 0) × ((t ≡ 0) × ((f ≡ 0) × Unit {0})))). g u.0 u.1.0 u.1.1.1.0)
-      choice (suc zero) h = not_kept (state_rules e 1 l r t f) (λ (u : (l ≡ 0) × ((r ≡ 0) × ((t < e) × ((f ≡ 0) × Unit {0})))). g u.0 u.1.0 u.1.1.1.0)
-      choice (suc (suc k)) h = absurd (omega arith)
+-- The starts of the expressions that a state has: a test's two.
+abbrev pub starts_of : State → List ℕ
+starts_of Stop = []
+starts_of (Step e) = []
+starts_of (Test k l r t f) = l ∷ r ∷ []
 
-  pub stop_decided : k ≡ 0 → l ≡ 0 → r ≡ 0 → f ≡ 0 → eqb t 0 ≡ all_kept (state_rules e k l r t f)
-  unfolding state_rules
-  stop_decided z p q s =
-      rw z
-      (decided (eqb t 0) (is l 0 ∷ is r 0 ∷ is t 0 ∷ is f 0 ∷ []) (λ u. (p, (q, (eqb-true t 0 u, (s, tt)))))
-      (λ u v. eqb-false t 0 u v.1.1.0))
+starts_by : (k : ℕ) (r : StateRecord) → starts_of (state_by k r) ≡ state_starts k r.left r.right
+unfolding state_starts state_by
+starts_by zero r = refl
+starts_by (suc zero) r = refl
+starts_by (suc (suc k)) r = refl
 
-  pub step_decided : k ≡ 1 → l ≡ 0 → r ≡ 0 → f ≡ 0 → ltb t e ≡ all_kept (state_rules e k l r t f)
-  unfolding state_rules
-  step_decided z p q s =
-      rw z
-      (decided (ltb t e) (is l 0 ∷ is r 0 ∷ lt t e ∷ is f 0 ∷ []) (λ u. (p, (q, (ltb-true t e u, (s, tt)))))
-      (λ u v. omega (arith, ltb-false t e u, v.1.1.0)))
-
-  test_rules : 2 ≤ k → state_rules e k l r t f ≡ (lt (k - 2) 3 ∷ lt t e ∷ lt f e ∷ [])
-  unfolding state_rules
-  test_rules h = ap (λ n. state_rules e n l r t f) (from_two k h)
-
-  pub test_refused : 2 ≤ k → (k ≤ 4 → t < e → f < e → ⊥) → false ≡ all_kept (state_rules e k l r t f)
-  test_refused h g =
-      rw (test_rules h)
-      (not_kept (lt (k - 2) 3 ∷ lt t e ∷ lt f e ∷ []) (λ v. g (omega (arith, v.0)) v.1.0 v.1.1.0))
-
-  pub test_decided : 2 ≤ k → k ≤ 4 → t < e → ltb f e ≡ all_kept (state_rules e k l r t f)
-  test_decided h g p =
-      rw (test_rules h)
-      (decided (ltb f e) (lt (k - 2) 3 ∷ lt t e ∷ lt f e ∷ []) (λ u. (omega arith, (p, (ltb-true f e u, tt))))
-      (λ u v. omega (arith, ltb-false f e u, v.1.1.0)))
-
-plain_starts : (f : ℕ → Fault) (k l r : ℕ) → k < 2 → first_of f (state_starts k l r) ≡ sound
-unfolding state_starts first_of
-plain_starts f zero l r h = refl
-plain_starts f (suc zero) l r h = refl
-plain_starts f (suc (suc k)) l r h = absurd (omega arith)
-
-test_starts : (f : ℕ → Fault) (k l r : ℕ) → 2 ≤ k → first_of f (state_starts k l r) ≡ (f l then f r)
-unfolding state_starts first_of
-test_starts f k l r h = ap (λ n. first_of f (state_starts n l r)) (from_two k h) ∙ ap (λ g. f l then g) (then_sound (f r))
+no_starts : (s : State) → ((k : Kind) (l r t f : ℕ) → s ≡ Test k l r t f → ⊥) → starts_of s ≡ []
+no_starts Stop h = refl
+no_starts (Step e) h = refl
+no_starts (Test k l r t f) h = absurd (h k l r t f refl)
 
 -- What is found in a state, by its fields, where there are so many edges.
 abbrev pub StateFound : ℕ → List ℕ → ℕ → StateRecord → Fault
@@ -123,81 +89,53 @@ state_found image i q p s = λ j. StateFound i (q j) (p j) (s j)
 
 module _ (i : ℕ) (code : List ℕ) (e : ℕ) (r : StateRecord) {b : Bool} {g : Fault}
     (own : b ≡ all_kept (state_rules e r.kind r.left r.right r.on_true r.on_false)) (found : StateFound i code e r ≡ g) where
-  pub state_refused : b ≡ false → Broken 2 i ≡ checked_of g
-  unfolding number_of
+  pub state_refused : b ≡ false → Err (fault_at wrong_state i) ≡ checked_of g
   state_refused h = refused wrong_state i _ (first_of (start_fault code) (state_starts r.kind r.left r.right)) own h ∙ ap checked_of found
 
-  state_passed : b ≡ true → first_of (start_fault code) (state_starts r.kind r.left r.right) ≡ g
-  state_passed h = sym (passed wrong_state i _ (first_of (start_fault code) (state_starts r.kind r.left r.right)) own h) ∙ found
+  module _ {s : State} (held : s ≡ state_as r) (h : b ≡ true) where
+    state_passed : first_of (start_fault code) (starts_of s) ≡ g
+    unfolding state_as
+    state_passed =
+        ap (first_of (start_fault code)) (ap starts_of held ∙ starts_by r.kind r)
+        ∙ sym (passed wrong_state i _ (first_of (start_fault code) (state_starts r.kind r.left r.right)) own h)
+        ∙ found
 
-  pub state_plain : b ≡ true → r.kind < 2 → Sound ≡ checked_of g
-  unfolding checked_of
-  state_plain h k = ap checked_of (sym (plain_starts (start_fault code) r.kind r.left r.right k) ∙ state_passed h)
+    pub state_plain : ((k : Kind) (l r t f : ℕ) → s ≡ Test k l r t f → ⊥) → Ok tt ≡ checked_of g
+    unfolding checked_of first_of
+    state_plain n = ap checked_of (sym (ap (first_of (start_fault code)) (no_starts s n)) ∙ state_passed)
 
-  -- A test's findings.
-  state_test : b ≡ true → 2 ≤ r.kind → (start_fault code r.left then start_fault code r.right) ≡ g
-  state_test h k = sym (test_starts (start_fault code) r.kind r.left r.right k) ∙ state_passed h
+    module _ {k : Kind} {l x t f : ℕ} (test : s ≡ Test k l x t f) where
+      -- A test's findings.
+      state_test : (start_fault code l then start_fault code x) ≡ g
+      unfolding first_of
+      state_test =
+          ap (λ f. start_fault code l then f) (sym (then_sound (start_fault code x)))
+          ∙ sym (ap (λ s. first_of (start_fault code) (starts_of s)) test)
+          ∙ state_passed
 
-  pub state_left : {n j : ℕ} {c : Checked} → b ≡ true → 2 ≤ r.kind → c ≡ checked_of (start_fault code r.left) → c ≡ Broken n j
-      → Broken n j ≡ checked_of g
-  state_left h k p q = first_broken (start_fault code r.left) (start_fault code r.right) p q ∙ ap checked_of (state_test h k)
+      pub state_left : {y : declared.Fault} {c : Checked} → c ≡ checked_of (start_fault code l) → c ≡ Err y → Err y ≡ checked_of g
+      state_left p q = first_broken (start_fault code l) (start_fault code x) p q ∙ ap checked_of state_test
 
-  pub state_right : {c d : Checked} → b ≡ true → 2 ≤ r.kind → c ≡ checked_of (start_fault code r.left) → c ≡ Sound
-      → d ≡ checked_of (start_fault code r.right) → d ≡ checked_of g
-  state_right h k p q d =
-      d ∙ ap checked_of (sym (first_sound (start_fault code r.left) (start_fault code r.right) p q) ∙ state_test h k)
+      pub state_right : {c d : Checked} → c ≡ checked_of (start_fault code l) → c ≡ Ok tt → d ≡ checked_of (start_fault code x) → d ≡ checked_of g
+      state_right p q d = d ∙ ap checked_of (sym (first_sound (start_fault code l) (start_fault code x) p q) ∙ state_test)
 
 -- Actions.
 
-module _ (k a b : ℕ) where
-  pub assign_decided : k ≡ 0 → leb a 15 ≡ all_kept (action_rules k a b)
-  unfolding action_rules
-  assign_decided z =
-      rw z
-      (decided (leb a 15) (le a 15 ∷ []) (λ u. (leb-true a 15 u, tt)) (λ u v. omega (arith, leb-false a 15 u, v.0)))
+-- The starts of the expressions that an action has: an assign's and a write's one.
+abbrev pub starts_in : Action → List ℕ
+starts_in (Assign v e) = e ∷ []
+starts_in (Read p v) = []
+starts_in (Write p e) = e ∷ []
 
-  read_rules : k ≡ 1 → action_rules k a b ≡ (le a 3 ∷ le b 15 ∷ [])
-  unfolding action_rules
-  read_rules z = rw z
+pub has_start : {a : Action} {e : ℕ} → ((x : ℕ) × (a ≡ Assign x e)) ⊎ ((x : ℕ) × (a ≡ Write x e)) → starts_in a ≡ (e ∷ [])
+has_start (inl p) = ap starts_in p.1
+has_start (inr p) = ap starts_in p.1
 
-  write_rules : 2 ≤ k → action_rules k a b ≡ (is (k - 2) 0 ∷ le a 3 ∷ [])
-  unfolding action_rules
-  write_rules h = ap (λ n. action_rules n a b) (from_two k h)
-
-  pub kind_refused : 2 < k → false ≡ all_kept (action_rules k a b)
-  kind_refused h =
-      let g : 2 ≤ k = omega arith in
-      rw (write_rules g) (not_kept (is (k - 2) 0 ∷ le a 3 ∷ []) (λ v. omega (arith, v.0)))
-
-  pub port_refused : 1 ≤ k → 3 < a → false ≡ all_kept (action_rules k a b)
-  port_refused h g = choice (eqb k 1) refl
-    where
-      choice : (t : Bool) → eqb k 1 ≡ t → false ≡ all_kept (action_rules k a b)
-      choice true e = rw (read_rules (eqb-true k 1 e)) (not_kept (le a 3 ∷ le b 15 ∷ []) (λ v. omega (arith, v.0)))
-      choice false e =
-          let n = eqb-false k 1 e in
-          let q : 2 ≤ k = omega arith in
-          rw (write_rules q) (not_kept (is (k - 2) 0 ∷ le a 3 ∷ []) (λ v. omega (arith, v.1.0)))
-
-  pub write_kept : k ≡ 2 → a ≤ 3 → true ≡ all_kept (action_rules k a b)
-  write_kept z h =
-      let q : 2 ≤ k = omega arith in
-      rw (write_rules q) (all_kept_lem (is (k - 2) 0 ∷ le a 3 ∷ []) (omega arith, (h, tt)))
-
-  pub read_decided : k ≡ 1 → a ≤ 3 → leb b 15 ≡ all_kept (action_rules k a b)
-  read_decided z h =
-      rw (read_rules z)
-      (decided (leb b 15) (le a 3 ∷ le b 15 ∷ []) (λ u. (h, (leb-true b 15 u, tt))) (λ u v. omega (arith, leb-false b 15 u, v.1.0)))
-
-read_starts : (f : ℕ → Fault) (k b : ℕ) → k ≡ 1 → first_of f (action_starts k b) ≡ sound
-unfolding action_starts first_of
-read_starts f k b z = rw z
-
-value_starts : (f : ℕ → Fault) (k b : ℕ) → (k ≡ 1 → ⊥) → first_of f (action_starts k b) ≡ f b
-unfolding action_starts first_of
-value_starts f zero b h = then_sound (f b)
-value_starts f (suc zero) b h = absurd (h refl)
-value_starts f (suc (suc k)) b h = then_sound (f b)
+starts_in_by : (k : ℕ) (r : ActionRecord) → starts_in (action_by k r) ≡ action_starts k r.b
+unfolding action_starts action_by
+starts_in_by zero r = refl
+starts_in_by (suc zero) r = refl
+starts_in_by (suc (suc k)) r = refl
 
 -- What is found in an action, by its fields.
 abbrev pub ActionFound : ℕ → List ℕ → ActionRecord → Fault
@@ -211,51 +149,31 @@ action_found image i q p s = λ j. ActionFound i (q j) (action_words_lem image i
 
 module _ (i : ℕ) (code : List ℕ) (r : ActionRecord) {b : Bool} {g : Fault} (own : b ≡ all_kept (action_rules r.kind r.a r.b))
     (found : ActionFound i code r ≡ g) where
-  pub action_refused : b ≡ false → Broken 3 i ≡ checked_of g
-  unfolding number_of
+  pub action_refused : b ≡ false → Err (fault_at wrong_action i) ≡ checked_of g
   action_refused h = refused wrong_action i _ (first_of (start_fault code) (action_starts r.kind r.b)) own h ∙ ap checked_of found
 
-  action_passed : b ≡ true → first_of (start_fault code) (action_starts r.kind r.b) ≡ g
-  action_passed h = sym (passed wrong_action i _ (first_of (start_fault code) (action_starts r.kind r.b)) own h) ∙ found
+  module _ {a : Action} (held : a ≡ action_as r) (h : b ≡ true) where
+    action_passed : first_of (start_fault code) (starts_in a) ≡ g
+    unfolding action_as
+    action_passed =
+        ap (first_of (start_fault code)) (ap starts_in held ∙ starts_in_by r.kind r)
+        ∙ sym (passed wrong_action i _ (first_of (start_fault code) (action_starts r.kind r.b)) own h)
+        ∙ found
 
-  pub action_read : b ≡ true → r.kind ≡ 1 → Sound ≡ checked_of g
-  unfolding checked_of
-  action_read h k = ap checked_of (sym (read_starts (start_fault code) r.kind r.b k) ∙ action_passed h)
+    pub action_plain : starts_in a ≡ [] → Ok tt ≡ checked_of g
+    unfolding checked_of first_of
+    action_plain n = ap checked_of (sym (ap (first_of (start_fault code)) n) ∙ action_passed)
 
-  pub action_value : {c : Checked} → b ≡ true → (r.kind ≡ 1 → ⊥) → c ≡ checked_of (start_fault code r.b) → c ≡ checked_of g
-  action_value h k e = e ∙ ap checked_of (sym (value_starts (start_fault code) r.kind r.b k) ∙ action_passed h)
-
--- The variable that an action sets.
-
-module _ (code : List ℕ) (k a b : ℕ) {x : Action} (is-action : x ≡ action_of code k a b) where
-  pub set_assign : k ≡ 0 → Variable a ≡ set_of x
-  unfolding action_of set_of
-  set_assign z = rw (is-action, z)
-
-  pub set_read : k ≡ 1 → Variable b ≡ set_of x
-  unfolding action_of set_of
-  set_read z = rw (is-action, z)
-
-  pub set_nothing : (k ≡ 0 → ⊥) → (k ≡ 1 → ⊥) → Nothing ≡ set_of x
-  unfolding action_of set_of
-  set_nothing y z = rw (is-action, from_two k (omega arith))
+    pub action_value : {e : ℕ} {c : Checked} → starts_in a ≡ (e ∷ []) → c ≡ checked_of (start_fault code e) → c ≡ checked_of g
+    unfolding first_of
+    action_value {e} n p =
+        p ∙ ap checked_of (sym (then_sound (start_fault code e)) ∙ sym (ap (first_of (start_fault code)) n) ∙ action_passed)
 
 -- Edges.
 
-module _ (s a t f n : ℕ) where
-  pub edge_refused_field : (t < s → n ≤ 16 → ⊥) → false ≡ all_kept (edge_rules s a t f n)
-  unfolding edge_rules
-  edge_refused_field g = not_kept (lt t s ∷ le n 16 ∷ le (f + n) a ∷ []) (λ v. g v.0 v.1.0)
-
-  pub edge_decided : t < s → n ≤ 16 → leb (f + n) a ≡ all_kept (edge_rules s a t f n)
-  unfolding edge_rules
-  edge_decided p q =
-      decided (leb (f + n) a) (lt t s ∷ le n 16 ∷ le (f + n) a ∷ []) (λ u. (p, (q, (leb-true (f + n) a u, tt))))
-      (λ u v. omega (arith, leb-false (f + n) a u, v.1.1.0))
-
-  pub edge_range : {b : Bool} → b ≡ all_kept (edge_rules s a t f n) → b ≡ true → f + n ≤ a
-  unfolding edge_rules
-  edge_range e h = (facts_kept (lt t s ∷ le n 16 ∷ le (f + n) a ∷ []) e h).1.1.0
+pub edge_range : (s a t f n : ℕ) {b : Bool} → b ≡ all_kept (edge_rules s a t f n) → b ≡ true → f + n ≤ a
+unfolding edge_rules
+edge_range s a t f n e h = (facts_kept (lt t s ∷ le n 16 ∷ le (f + n) a ∷ []) e h).1.1.0
 
 -- Whether n actions from action f on set no variable twice.
 abbrev pub once_in : List ℕ → ℕ → ℕ → Bool
@@ -274,8 +192,7 @@ edge_found image i ps pa p e = λ j. EdgeFound image i (ps j) (pa j) (edge_words
 
 module _ (image : List ℕ) (i s a : ℕ) (r : EdgeRecord) {b : Bool} {g : Fault} (own : b ≡ all_kept (edge_rules s a r.target r.first r.count))
     (found : EdgeFound image i s a r ≡ g) where
-  pub edge_refused : b ≡ false → Broken 4 i ≡ checked_of g
-  unfolding number_of
+  pub edge_refused : b ≡ false → Err (fault_at wrong_edge i) ≡ checked_of g
   edge_refused h = refused wrong_edge i _ (check wrong_edge i (so (once_in image r.first r.count) ∷ [])) own h ∙ ap checked_of found
 
   edge_passed : b ≡ true → (check wrong_edge i (so (once_in image r.first r.count) ∷ []) then sound) ≡ g
@@ -284,11 +201,10 @@ module _ (image : List ℕ) (i s a : ℕ) (r : EdgeRecord) {b : Bool} {g : Fault
       ∙ sym (passed wrong_edge i _ (check wrong_edge i (so (once_in image r.first r.count) ∷ [])) own h)
       ∙ found
 
-  pub edge_twice : {c : Bool} → b ≡ true → c ≡ once_in image r.first r.count → c ≡ false → Broken 4 i ≡ checked_of g
-  unfolding number_of
+  pub edge_twice : {c : Bool} → b ≡ true → c ≡ once_in image r.first r.count → c ≡ false → Err (fault_at wrong_edge i) ≡ checked_of g
   edge_twice h e k = refused wrong_edge i _ sound (e ∙ so_kept (once_in image r.first r.count)) k ∙ ap checked_of (edge_passed h)
 
-  pub edge_once : {c : Bool} → b ≡ true → c ≡ once_in image r.first r.count → c ≡ true → Sound ≡ checked_of g
+  pub edge_once : {c : Bool} → b ≡ true → c ≡ once_in image r.first r.count → c ≡ true → Ok tt ≡ checked_of g
   unfolding checked_of
   edge_once h e k =
       ap checked_of (sym (passed wrong_edge i _ sound (e ∙ so_kept (once_in image r.first r.count)) k) ∙ edge_passed h)
@@ -298,24 +214,26 @@ module _ (image : List ℕ) (i s a : ℕ) (r : EdgeRecord) {b : Bool} {g : Fault
 -- What is found along the three areas, by how many records each has.
 abbrev pub areas_fault : List ℕ → ℕ → ℕ → ℕ → Fault
 areas_fault image s a e =
-    first_of (fault_in States image) (up_to 0 s)
-    then first_of (fault_in Actions image) (up_to 0 a)
-    then first_of (fault_in Edges image) (up_to 0 e)
+    first_of (state_fault image) (up_to 0 s)
+    then first_of (action_fault image) (up_to 0 a)
+    then first_of (edge_fault image) (up_to 0 e)
 
 module _ (image : List ℕ) {b : Bool} (header : b ≡ all_kept (header_rules image)) where
-  pub header_refused : b ≡ false → Broken 1 0 ≡ checked_of (table_fault image)
-  unfolding table_fault number_of
+  pub header_refused : b ≡ false → Err (fault_at wrong_table 0) ≡ checked_of (table_fault image)
+  unfolding table_fault
   header_refused h = refused wrong_table 0 (header_rules image) _ header h
-
-  -- The areas are where the header says.
-  pub cut_out : {code : List ℕ} {o : Offsets} → b ≡ true → code ≡ code_area image → o.edges ≡ word image 5 → o.actions ≡ word image 7 → Cut image code o
-  cut_out h q pe pa =
-      let facts = facts_kept (header_rules image) header h in
-      record { codes = q; edges = pe ∙ edges_from image facts; actions = pa ∙ actions_from image facts }
 
   -- What is found in the image is what is found along its areas, with the counts as they were read.
   pub areas : {s a e : ℕ} → b ≡ true → s ≡ word image 2 → a ≡ word image 6 → e ≡ word image 4 → table_fault image ≡ areas_fault image s a e
-  unfolding table_fault fault_in states actions edges
+  unfolding table_fault states actions edges
   areas h ps pa pe =
       passed wrong_table 0 (header_rules image) (areas_fault image (word image 2) (word image 6) (word image 4)) header h
       ∙ sym (λ j. areas_fault image (ps j) (pa j) (pe j))
+
+-- The areas are where a right header says.
+module _ (image : List ℕ) (h : all_kept (header_rules image) ≡ true) where
+  pub edges_here : {at : ℕ} → at ≡ word image 5 → at ≡ edges_at image
+  edges_here p = p ∙ edges_from image (facts_kept (header_rules image) refl h)
+
+  pub actions_here : {at : ℕ} → at ≡ word image 7 → at ≡ actions_at image
+  actions_here p = p ∙ actions_from image (facts_kept (header_rules image) refl h)

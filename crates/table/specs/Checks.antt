@@ -1,38 +1,21 @@
 -- What the answers of this crate stand for: what the model finds in the records of an area, and the fields of records, as the code
 -- hands them over. Assumes nothing.
-use Rattle.std.specs.Prelude.{ℕ, ◌+◌, ◌*◌, ◌≡◌, List, [], ◌∷◌}
-use Rattle.model.specs.Answer.{Fault, Rule, le, lt, word}
-use Rattle.model.specs.Table.{edges_at, actions_at, code_area, Action, assign, read, write, state_fault, action_fault, edge_fault, state_word}
-use Rattle.table.specs.declared.Area.{Area}
-use Rattle.table.specs.declared.Area.TheVariants.{States, Actions, Edges}
+use Rattle.std.specs.Prelude.{ℕ, ◌+◌, ◌*◌, List, [], ◌∷◌, Option, Some, None}
+use Rattle.model.specs.Answer.{Rule, le, lt, word}
+use Rattle.model.specs.Table.{Action, assign, read, write, state_word}
 use Rattle.table.specs.declared.StateRecord.{StateRecord}
 use Rattle.table.specs.declared.EdgeRecord.{EdgeRecord}
 use Rattle.table.specs.declared.ActionRecord.{ActionRecord}
-use Rattle.table.specs.declared.Offsets.{Offsets}
-use Rattle.table.specs.declared.Set.{Set}
-use Rattle.table.specs.declared.Set.TheVariants.{Nothing, Variable}
-
--- The areas as they are cut out of an image: its code words, and where its edges and its actions begin.
-pub record Cut (image code : List ℕ) (offsets : Offsets) : Type 0 where
-  pub codes : code ≡ code_area image
-  pub edges : offsets.edges ≡ edges_at image
-  pub actions : offsets.actions ≡ actions_at image
-
--- What is found in record i of an area.
-unfoldable pub fault_in : Area → List ℕ → ℕ → Fault
-fault_in States image i = state_fault image i
-fault_in Actions image i = action_fault image i
-fault_in Edges image i = edge_fault image i
 
 -- The rules of an edge's own fields, where there are so many states and actions.
 unfoldable pub edge_rules : ℕ → ℕ → ℕ → ℕ → ℕ → List Rule
 edge_rules s a t f n = lt t s ∷ le n 16 ∷ le (f + n) a ∷ []
 
--- The variable that an action sets.
-unfoldable pub set_of : Action → Set
-set_of (assign v e) = Variable v
-set_of (read p v) = Variable v
-set_of (write p e) = Nothing
+-- The variable that an action sets, if it sets one.
+unfoldable pub set_of : Action → Option ℕ
+set_of (assign v e) = Some v
+set_of (read p v) = Some v
+set_of (write p e) = None
 
 -- The fields of state i.
 unfoldable pub state_record : List ℕ → ℕ → StateRecord

@@ -3,22 +3,20 @@
 #![tactic(auto)]
 
 ghost use Rattle.std.specs.Prelude.{◌≡◌, map, ◌+◌, ◌<◌, ◌^◌};
-ghost use Rattle.model.specs.Answer.{first_of, up_to, all_kept, word};
+ghost use Rattle.std.specs.List.{range_with_len};
+ghost use Rattle.model.specs.Answer.{all_kept, word};
 ghost use Rattle.model.specs.Expr.{read_at, is_parsed};
-ghost use Rattle.model.specs.Table.{edges_at, actions_at, codes_at, code_area, header_rules, start_fault, state_rules, state_fault, action_rules, action_fault, action_at, edge_fault, variables_set, member, distinct, table_fault};
-ghost use Rattle.fault.specs.Fault.{checked_of, apart};
-ghost use Rattle.table.specs.Checks.{Cut, fault_in, edge_rules, set_of, state_record, edge_record, action_record};
+ghost use Rattle.model.specs.Table.{edges_at, actions_at, codes_at, code_area, header_rules, start_fault, state_rules, action_rules, table_fault};
+ghost use Rattle.fault.specs.Fault.{checked_of};
+ghost use Rattle.table.specs.Checks.{edge_rules, state_record, edge_record, action_record};
 
-use expr::Extent;
-use fault::Checked;
+use fault::{Fault, Reason};
 
-// The areas of records.
-#[derive(Clone, Copy)]
-pub enum Area {
-    States,
-    Actions,
-    Edges,
-}
+mod areas;
+mod decoded;
+
+use areas::Areas;
+pub use decoded::{Action, State};
 
 // The fields of a state.
 #[derive(Clone, Copy)]
@@ -46,31 +44,33 @@ pub struct ActionRecord {
     pub b: u32,
 }
 
-// Where the edges and the actions begin.
-#[derive(Clone, Copy)]
-struct Offsets {
-    edges: u32,
-    actions: u32,
-}
-
-// The variable that an action sets.
-#[derive(Clone, Copy)]
-enum Set {
-    Nothing,
-    Variable(u32),
-}
-
 // The word at a place; 0 past the end.
+#[tactic(auto, unfolding(model::specs::Answer::word))]
 pub fn word_at(image: &[u32], at: usize) -> u32
     ensures { result ≡ word image.now at }
 {
-    if at < image.len() {
-        return image[at];
+    image.get(at).copied().unwrap_or(0)
+}
+
+// N words from a place on; 0 past the end.
+pub fn words_at<const N: usize>(image: &[u32], at: usize) -> [u32; N]
+    requires { at + N < 2 ^ 64 }
+    ensures { result ≡ map (λ k. word image.now (at + k)) (range_with_len 0 N) }
+{
+    let mut words = [0; N];
+    let end = at + N;
+    if end <= image.len() {
+        words.copy_from_slice(&image[at..end]);
+        return words;
     }
-    0
+    for k in 0..N {
+        words[k] = word_at(image, at + k);
+    }
+    words
 }
 
 // Where the edges begin, as the count of states fixes it.
+#[tactic(auto, unfolding(model::specs::Table::edges_at, model::specs::Table::states))]
 fn edges_at(image: &[u32]) -> usize
     ensures { (result ≡ edges_at image.now) × (result < 2 ^ 35) }
 {
@@ -79,6 +79,7 @@ fn edges_at(image: &[u32]) -> usize
 }
 
 // Where the actions begin.
+#[tactic(auto, unfolding(model::specs::Table::actions_at, model::specs::Table::edges))]
 fn actions_at(image: &[u32]) -> usize
     ensures { (result ≡ actions_at image.now) × (result < 2 ^ 36) }
 {
@@ -87,6 +88,7 @@ fn actions_at(image: &[u32]) -> usize
 }
 
 // Where the code area begins.
+#[tactic(auto, unfolding(model::specs::Table::codes_at, model::specs::Table::actions))]
 fn codes_at(image: &[u32]) -> usize
     ensures { (result ≡ codes_at image.now) × (result < 2 ^ 37) }
 {
@@ -111,115 +113,65 @@ pub fn code_area(image: &[u32]) -> &[u32]
 }
 
 // The fields of state i.
+#[tactic(auto, unfolding(crate::specs::Checks::state_record, model::specs::Table::state_word))]
 pub fn state(image: &[u32], i: u32) -> StateRecord
     ensures { result ≡ state_record image.now i }
 {
-    let at = 10 + 5 * (i as usize);
-    if at + 4 < image.len() {
-        return StateRecord {
-            kind: image[at],
-            left: image[at + 1],
-            right: image[at + 2],
-            on_true: image[at + 3],
-            on_false: image[at + 4],
-        };
-    }
+    let [kind, left, right, on_true, on_false] = words_at::<5>(image, 10 + 5 * (i as usize));
     StateRecord {
-        kind: word_at(image, at),
-        left: word_at(image, at + 1),
-        right: word_at(image, at + 2),
-        on_true: word_at(image, at + 3),
-        on_false: word_at(image, at + 4),
+        kind,
+        left,
+        right,
+        on_true,
+        on_false,
     }
 }
 
 // The fields of edge i, where the edges begin at a place; of a sound image that is its word 5.
+#[tactic(auto, unfolding(crate::specs::Checks::edge_record))]
 pub fn edge(image: &[u32], at: u32, i: u32) -> EdgeRecord
     ensures { result ≡ edge_record image.now at i }
 {
-    let begin = (at as usize) + 3 * (i as usize);
-    if begin + 2 < image.len() {
-        return EdgeRecord {
-            target: image[begin],
-            first: image[begin + 1],
-            count: image[begin + 2],
-        };
-    }
+    let [target, first, count] = words_at::<3>(image, (at as usize) + 3 * (i as usize));
     EdgeRecord {
-        target: word_at(image, begin),
-        first: word_at(image, begin + 1),
-        count: word_at(image, begin + 2),
+        target,
+        first,
+        count,
     }
 }
 
 // The fields of action i, where the actions begin at a place; of a sound image that is its word 7.
+#[tactic(auto, unfolding(crate::specs::Checks::action_record))]
 pub fn action(image: &[u32], at: u32, i: u32) -> ActionRecord
     ensures { result ≡ action_record image.now at i }
 {
-    let begin = (at as usize) + 3 * (i as usize);
-    if begin + 2 < image.len() {
-        return ActionRecord {
-            kind: image[begin],
-            a: image[begin + 1],
-            b: image[begin + 2],
-        };
-    }
-    ActionRecord {
-        kind: word_at(image, begin),
-        a: word_at(image, begin + 1),
-        b: word_at(image, begin + 2),
-    }
+    let [kind, a, b] = words_at::<3>(image, (at as usize) + 3 * (i as usize));
+    ActionRecord { kind, a, b }
 }
 
 // Whether the header is right: the version, the length, the counts, and the offsets that they fix.
+#[tactic(auto, unfolding(model::specs::Table::header_rules, model::specs::Table::states, model::specs::Table::edges, model::specs::Table::actions, model::specs::Table::codes, model::specs::Answer::all_kept, model::specs::Answer::kept))]
 fn header_fits(image: &[u32]) -> bool
     ensures { result ≡ all_kept (header_rules image.now) }
 {
-    if word_at(image, 0) != 1 {
-        return false;
-    }
-    let length = word_at(image, 1) as usize;
-    if length != image.len() {
-        return false;
-    }
     let states = word_at(image, 2);
-    if states < 1 {
-        return false;
-    }
-    if states > 64 {
-        return false;
-    }
-    if word_at(image, 3) != 10 {
-        return false;
-    }
-    if word_at(image, 4) > 128 {
-        return false;
-    }
-    let edges_start = word_at(image, 5) as usize;
-    if edges_start != edges_at(image) {
-        return false;
-    }
-    if word_at(image, 6) > 512 {
-        return false;
-    }
-    let actions_start = word_at(image, 7) as usize;
-    if actions_start != actions_at(image) {
-        return false;
-    }
+    let edges = word_at(image, 4);
+    let actions = word_at(image, 6);
     let codes = word_at(image, 8) as usize;
-    if codes > 2048 {
-        return false;
-    }
-    let codes_start = word_at(image, 9) as usize;
-    let begin = codes_at(image);
-    if codes_start != begin {
-        return false;
-    }
-    let end = begin + codes;
-    if length != end {
-        return false;
-    }
-    true
+    let codes_start = codes_at(image);
+    let end = codes_start + codes;
+    word_at(image, 0) == 1
+        && word_at(image, 1) as usize == image.len()
+        && 1 <= states
+        && states <= 64
+        && word_at(image, 3) == 10
+        && edges <= 128
+        && word_at(image, 5) as usize == edges_at(image)
+        && actions <= 512
+        && word_at(image, 7) as usize == actions_at(image)
+        && codes <= 2048
+        && word_at(image, 9) as usize == codes_start
+        && image.len() == end
 }
 
 // Whether an expression starts at a place of a code area.
@@ -230,274 +182,72 @@ fn is_expression(code: &[u32], start: u32) -> bool
     if code.len() <= at {
         return false;
     }
-    match expr::extent(&code[at..]) {
-        Extent::Malformed => false,
-        Extent::Uses(_) => true,
-    }
+    expr::extent(&code[at..]).is_some()
 }
 
 // The check of one expression of a code area, by its start.
-fn check_start(code: &[u32], start: u32) -> Checked
+#[tactic(auto, unfolding(model::specs::Table::start_fault, fault::specs::Fault::checked_of))]
+fn check_start(code: &[u32], start: u32) -> Result<(), Fault>
     ensures { result ≡ checked_of (start_fault code.now start) }
 {
     if is_expression(code, start) {
-        return Checked::Sound;
+        return Ok(());
     }
-    Checked::Broken {
-        number: 5,
+    Err(Fault {
+        reason: Reason::WrongExpression,
         record: start,
-    }
+    })
 }
 
 // Whether the fields of a state are right, where there are so many edges.
-fn state_fits(edges: u32, kind: u32, left: u32, right: u32, taken: u32, other: u32) -> bool
-    ensures { result ≡ all_kept (state_rules edges kind left right taken other) }
+#[tactic(auto, unfolding(model::specs::Table::state_rules, model::specs::Answer::all_kept, model::specs::Answer::kept))]
+fn state_fits(edges: u32, s: StateRecord) -> bool
+    ensures { result ≡ all_kept (state_rules edges s.kind s.left s.right s.on_true s.on_false) }
 {
-    if kind < 2 {
-        if left != 0 {
-            return false;
-        }
-        if right != 0 {
-            return false;
-        }
-        if other != 0 {
-            return false;
-        }
-        if kind == 0 {
-            return taken == 0;
-        }
-        return taken < edges;
-    }
-    if kind > 4 {
-        return false;
-    }
-    if taken >= edges {
-        return false;
-    }
-    other < edges
-}
-
-// The check of one state: its own fields, then a test's left expression, then its right.
-fn check_state(image: &[u32], code: &[u32], i: u32) -> Checked
-    requires { code.now ≡ code_area image.now }
-    ensures { result ≡ checked_of (state_fault image.now i) }
-{
-    let s = state(image, i);
-    let edges = word_at(image, 4);
-    if !state_fits(edges, s.kind, s.left, s.right, s.on_true, s.on_false) {
-        return Checked::Broken {
-            number: 2,
-            record: i,
-        };
-    }
-    if s.kind < 2 {
-        return Checked::Sound;
-    }
-    match check_start(code, s.left) {
-        Checked::Broken { number, record } => Checked::Broken { number, record },
-        Checked::Sound => check_start(code, s.right),
+    // Stays: the record's numbers are checked here, before they are kinds.
+    match s.kind {
+        0 => s.left == 0 && s.right == 0 && s.on_true == 0 && s.on_false == 0,
+        1 => s.left == 0 && s.right == 0 && s.on_true < edges && s.on_false == 0,
+        2..=4 => s.on_true < edges && s.on_false < edges,
+        _ => false,
     }
 }
 
 // Whether the fields of an action are right.
-fn action_fits(kind: u32, a: u32, b: u32) -> bool
-    ensures { result ≡ all_kept (action_rules kind a b) }
+#[tactic(auto, unfolding(model::specs::Table::action_rules, model::specs::Answer::all_kept, model::specs::Answer::kept))]
+fn action_fits(a: ActionRecord) -> bool
+    ensures { result ≡ all_kept (action_rules a.kind a.a a.b) }
 {
-    if kind == 0 {
-        return a <= 15;
+    // Stays: the record's numbers are checked here, before they are kinds.
+    match a.kind {
+        0 => a.a <= 15,
+        1 => a.a <= 3 && a.b <= 15,
+        2 => a.a <= 3,
+        _ => false,
     }
-    if kind > 2 {
-        return false;
-    }
-    if a > 3 {
-        return false;
-    }
-    if kind == 2 {
-        return true;
-    }
-    b <= 15
-}
-
-// The check of one action: its own fields, then the expression of an assign or a write.
-fn check_action(image: &[u32], code: &[u32], at: u32, i: u32) -> Checked
-    requires { (code.now ≡ code_area image.now) × (at ≡ actions_at image.now) }
-    ensures { result ≡ checked_of (action_fault image.now i) }
-{
-    let a = action(image, at, i);
-    if !action_fits(a.kind, a.a, a.b) {
-        return Checked::Broken {
-            number: 3,
-            record: i,
-        };
-    }
-    if a.kind == 1 {
-        return Checked::Sound;
-    }
-    check_start(code, a.b)
-}
-
-// The variable that action i sets.
-fn set_by(image: &[u32], at: u32, i: u32) -> Set
-    requires { at ≡ actions_at image.now }
-    ensures { result ≡ set_of (action_at image.now i) }
-{
-    let a = action(image, at, i);
-    if a.kind == 0 {
-        return Set::Variable(a.a);
-    }
-    if a.kind == 1 {
-        return Set::Variable(a.b);
-    }
-    Set::Nothing
-}
-
-// Whether action i sets the variable.
-fn is_set(image: &[u32], at: u32, variable: u32, i: u32) -> bool
-    requires { at ≡ actions_at image.now }
-    ensures { result ≡ member variable (variables_set (map (action_at image.now) (up_to i 1))) }
-{
-    match set_by(image, at, i) {
-        Set::Nothing => false,
-        Set::Variable(v) => variable == v,
-    }
-}
-
-// Whether one of some actions sets the variable.
-fn sets(image: &[u32], at: u32, variable: u32, first: u32, count: u32) -> bool
-    requires { (at ≡ actions_at image.now) × (first + count < 2 ^ 32) }
-    ensures { result ≡ member variable (variables_set (map (action_at image.now) (up_to first count))) }
-{
-    let mut i = first;
-    let mut left = count;
-    while 0 < left {
-        if is_set(image, at, variable, i) {
-            return true;
-        }
-        i += 1;
-        left -= 1;
-    }
-    false
-}
-
-// Whether action i sets no variable that one of the n behind it sets.
-fn is_apart(image: &[u32], at: u32, i: u32, n: u32) -> bool
-    requires { (at ≡ actions_at image.now) × (i + 1 + n < 2 ^ 32) }
-    ensures { result ≡ apart (variables_set (map (action_at image.now) (up_to i 1))) (variables_set (map (action_at image.now) (up_to (i + 1) n))) }
-{
-    match set_by(image, at, i) {
-        Set::Nothing => true,
-        Set::Variable(v) => !sets(image, at, v, i + 1, n),
-    }
-}
-
-// Whether no two of some actions set the same variable.
-fn sets_once(image: &[u32], at: u32, first: u32, count: u32) -> bool
-    requires { (at ≡ actions_at image.now) × (first + count < 2 ^ 32) }
-    ensures { result ≡ distinct (variables_set (map (action_at image.now) (up_to first count))) }
-{
-    let mut i = first;
-    let mut left = count;
-    while 0 < left {
-        left -= 1;
-        if !is_apart(image, at, i, left) {
-            return false;
-        }
-        i += 1;
-    }
-    true
 }
 
 // Whether the fields of an edge are right, where there are so many states and actions.
-fn edge_fits(states: u32, actions: u32, target: u32, first: u32, count: u32) -> bool
-    ensures { result ≡ all_kept (edge_rules states actions target first count) }
+#[tactic(auto, unfolding(crate::specs::Checks::edge_rules, model::specs::Answer::all_kept, model::specs::Answer::kept))]
+fn edge_fits(states: u32, actions: u32, e: EdgeRecord) -> bool
+    ensures { result ≡ all_kept (edge_rules states actions e.target e.first e.count) }
 {
-    if target >= states {
-        return false;
-    }
-    if count > 16 {
-        return false;
-    }
-    let end = (first as usize) + (count as usize);
-    end <= (actions as usize)
-}
-
-// The check of one edge: its own fields, then that its actions set no variable twice.
-fn check_edge(image: &[u32], edges: u32, actions: u32, i: u32) -> Checked
-    requires { (edges ≡ edges_at image.now) × (actions ≡ actions_at image.now) }
-    ensures { result ≡ checked_of (edge_fault image.now i) }
-{
-    let e = edge(image, edges, i);
-    if !edge_fits(
-        word_at(image, 2),
-        word_at(image, 6),
-        e.target,
-        e.first,
-        e.count,
-    ) {
-        return Checked::Broken {
-            number: 4,
-            record: i,
-        };
-    }
-    if sets_once(image, actions, e.first, e.count) {
-        return Checked::Sound;
-    }
-    Checked::Broken {
-        number: 4,
-        record: i,
-    }
-}
-
-// The check of one record of an area.
-fn check_record(image: &[u32], code: &[u32], offsets: Offsets, area: Area, i: u32) -> Checked
-    requires { Cut image.now code.now offsets }
-    ensures { result ≡ checked_of (fault_in area image.now i) }
-{
-    match area {
-        Area::States => check_state(image, code, i),
-        Area::Actions => check_action(image, code, offsets.actions, i),
-        Area::Edges => check_edge(image, offsets.edges, offsets.actions, i),
-    }
-}
-
-// The first fault along the n records of an area.
-fn check_area(image: &[u32], code: &[u32], offsets: Offsets, area: Area, n: u32) -> Checked
-    requires { Cut image.now code.now offsets }
-    ensures { result ≡ checked_of (first_of (fault_in area image.now) (up_to 0 n)) }
-{
-    let mut i = 0;
-    while i < n {
-        match check_record(image, code, offsets, area, i) {
-            Checked::Broken { number, record } => {
-                return Checked::Broken { number, record };
-            }
-            Checked::Sound => {}
-        }
-        i += 1;
-    }
-    Checked::Sound
+    let end = (e.first as usize) + (e.count as usize);
+    e.target < states && e.count <= 16 && end <= (actions as usize)
 }
 
 // The first fault of an image: the header's, or else along the states, the actions and the edges.
-pub fn check(image: &[u32]) -> Checked
+pub fn check(image: &[u32]) -> Result<(), Fault>
     ensures { result ≡ checked_of (table_fault image.now) }
 {
     if !header_fits(image) {
-        return Checked::Broken {
-            number: 1,
+        return Err(Fault {
+            reason: Reason::WrongTable,
             record: 0,
-        };
+        });
     }
-    let code = code_area(image);
-    let offsets = Offsets {
-        edges: word_at(image, 5),
-        actions: word_at(image, 7),
-    };
-    match check_area(image, code, offsets, Area::States, word_at(image, 2)) {
-        Checked::Broken { number, record } => Checked::Broken { number, record },
-        Checked::Sound => match check_area(image, code, offsets, Area::Actions, word_at(image, 6)) {
-            Checked::Broken { number, record } => Checked::Broken { number, record },
-            Checked::Sound => check_area(image, code, offsets, Area::Edges, word_at(image, 4)),
-        },
-    }
+    let areas = Areas::new(image);
+    fault::first_fault(word_at(image, 2), |i| areas.check_state(i))?;
+    fault::first_fault(word_at(image, 6), |i| areas.check_action(i))?;
+    fault::first_fault(word_at(image, 4), |i| areas.check_edge(i))
 }

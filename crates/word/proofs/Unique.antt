@@ -7,7 +7,7 @@ use Rattle.word.proofs.minus.Reads as minus
 use Rattle.word.proofs.times.Reads as times
 use Rattle.word.proofs.negated.Reads as negated
 use Rattle.word.proofs.signed.Reads as signed
-use Rattle.word.proofs.kind_of.Reads as kind_of
+use Rattle.word.proofs.KindFromU32.from.Reads as kind_from
 use Rattle.word.proofs.holds.Reads as holds
 
 pub plus_unique : (κs : _) (a : _) (r r' : _) (s s' : _) → plus.Post κs a r s → plus.Post κs a r' s' → r ≡ r'
@@ -25,8 +25,8 @@ negated_unique κs a r r' s s' p q = one_answer p q
 pub signed_unique : (κs : _) (a : _) (r r' : _) (s s' : _) → signed.Post κs a r s → signed.Post κs a r' s' → r ≡ r'
 signed_unique κs a r r' s s' p q = one_answer p q
 
-pub kind_of_unique : (κs : _) (a : _) (r r' : _) (s s' : _) → kind_of.Post κs a r s → kind_of.Post κs a r' s' → r ≡ r'
-kind_of_unique κs a r r' s s' p q = one_answer p q
+pub kind_from_unique : (κs : _) (a : _) (r r' : _) (s s' : _) → kind_from.Post κs a r s → kind_from.Post κs a r' s' → r ≡ r'
+kind_from_unique κs a r r' s s' p q = one_answer p q
 
 pub holds_unique : (κs : _) (a : _) (r r' : _) (s s' : _) → holds.Post κs a r s → holds.Post κs a r' s' → r ≡ r'
 holds_unique κs a r r' s s' p q = one_answer p q

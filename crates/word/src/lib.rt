@@ -47,7 +47,7 @@ pub fn signed(x: u32) -> i64
 }
 
 // The three kinds of test.
-#[derive(Clone, Copy)]
+#[derive(Clone, Copy, PartialEq, Eq)]
 pub enum Kind {
     Equal,
     SignedLess,
@@ -55,16 +55,16 @@ pub enum Kind {
 }
 
 // The kind of a test by its number: 0 equal, 1 signed less, any other unsigned less.
-pub fn kind_of(n: u32) -> Kind
-    ensures { result ≡ kind_as (kind_numbered n) }
-{
-    if n == 0 {
-        return Kind::Equal;
+impl From<u32> for Kind {
+    ghost from_gives = { λ n r. r ≡ kind_as (kind_numbered n) };
+
+    fn from(n: u32) -> Kind {
+        match n {
+            0 => Kind::Equal,
+            1 => Kind::SignedLess,
+            _ => Kind::UnsignedLess,
+        }
     }
-    if n == 1 {
-        return Kind::SignedLess;
-    }
-    Kind::UnsignedLess
 }
 
 // Whether a test is true of two words.

@@ -3,8 +3,5 @@ use Rattle.model.specs.Table.{table_of}
 use Rattle.cover.proofs.Reaching.{Reaching}
 use Rattle.cover.proofs.reach.Given as goal
 
-abbrev pub invariant-loop-left : goal.invariant-loop-left
-invariant-loop-left l = Reaching (table_of l.table) l.state l.length l.bits l.here l.left l.rest
-
-abbrev pub decreases-loop-left : goal.decreases-loop-left
-decreases-loop-left l = l.left
+abbrev pub invariant-loop : goal.invariant-loop
+invariant-loop l = Reaching (table_of l.table) l.state l.length l.bits l.here l.counter l.rest

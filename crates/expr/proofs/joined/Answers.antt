@@ -30,4 +30,4 @@ returns-in-3 c = c.minus.ensures ∙ sym (joined_three _ _ _ c.in-3.is)
 
 pub returns-in_default : goal.returns-in_default
 returns-in_default c =
-    c.times.ensures ∙ sym (joined_else _ _ _ (λ (e : c.args.code ≡ 2). omega arith) (λ (e : c.args.code ≡ 3). omega arith))
+    c.times.ensures ∙ sym (joined_else _ _ _ (λ (e : c.args.kind ≡ 2). omega arith) (λ (e : c.args.kind ≡ 3). omega arith))

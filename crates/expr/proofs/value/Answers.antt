@@ -4,10 +4,10 @@ use Rattle.expr.proofs.Values.{malformed_is, tree_is}
 use Rattle.expr.proofs.value.Goals as goal
 
 pub worth-requires : goal.worth-requires
-worth-requires c = is_expression_lem _ c.extent.ensures c.in-Uses.is
+worth-requires c = is_expression_lem _ c.extent.ensures c.in_ok-used.was
 
-pub returns-in-Malformed : goal.returns-in-Malformed
-returns-in-Malformed c = malformed_is _ (extent_malformed _ c.extent.ensures c.in-Malformed.is)
+pub returns-in_err-used : goal.returns-in_err-used
+returns-in_err-used c = rw c.from_residual.ensures (malformed_is _ (extent_malformed _ c.extent.ensures c.in_err-used.was))
 
-pub returns-in-Uses : goal.returns-in-Uses
-returns-in-Uses c = tree_is _ (extent_uses _ c.extent.ensures c.in-Uses.is).1 c.worth.ensures
+pub returns : goal.returns
+returns c = tree_is _ (extent_uses _ c.extent.ensures c.in_ok-used.was).1 c.worth.ensures

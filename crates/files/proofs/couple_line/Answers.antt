@@ -1,17 +1,34 @@
--- `files::couple_line` meets its contract: the line lies within its buffer, and is appended as it is. Assumes nothing.
+-- `files::couple_line` meets its contract: a port takes at most ten bytes, and a signed number eleven. Assumes nothing.
 use native.Mathlib.Omega.{arith}
-use lib.ListN.{replicate}
+use mathlib.Core.Path.{◌≡◌, ◌∙◌, ap}
+use mir.Syntax.{w64}
+use borrow.Author.Rules.{rules}
+use Prim.Native.Nat.{ℕ}
+use lib.ListN.{length, length-append}
+use Rattle.std.proofs.lemmas.Fmt.{length-decimal-le}
+use Rattle.std.proofs.lemmas.Int.{to_z-of_z}
 use Rattle.files.specs.Lines.{couple_line}
-use Rattle.files.proofs.Lined.{length_couple, formed_within, formed_appended}
+use Rattle.files.proofs.Print.{signed_own, printed_length}
+use Rattle.files.proofs.Lined.{couple_pushed}
 use Rattle.files.proofs.couple_line.Goals as goal
 
-pub slice_bounds-line-end : goal.slice_bounds-line-end
-slice_bounds-line-end c = (formed_within (couple_line c.args.port c.args.x) (replicate 37 0) (c.form_couple-n.ensures.value, c.form_couple-n.ensures.out_after) (omega (arith, length_couple c.args.port c.args.x (omega arith) (omega arith)))).0
+pub push-requires : goal.push-requires
+push-requires c = omega (arith, length-decimal-le 10, ap length c.new-line.ensures)
 
-pub slice_bounds-append-end : goal.slice_bounds-append-end
-slice_bounds-append-end c = (formed_within (couple_line c.args.port c.args.x) (replicate 37 0) (c.form_couple-n.ensures.value, c.form_couple-n.ensures.out_after) (omega (arith, length_couple c.args.port c.args.x (omega arith) (omega arith)))).1
+-- What std writes of the signed number.
+
+pub push-requires-2 : goal.push-requires-2
+push-requires-2 c =
+    let e = to_z-of_z w64 c.signed.result (search rules) in
+    let n = printed_length c.args.x (omega arith) in
+    let m = ap length c.push.ensures in
+    rw (e, c.signed.ensures, signed_own c.args.x (omega arith))
+    (omega (arith, length-decimal-le 10, length-append {A = ℕ}, m, ap length c.new-line.ensures))
 
 pub returns : goal.returns
 returns c =
-    let h = formed_appended c.args.at (couple_line c.args.port c.args.x) (replicate 37 0) c.args.text.now (c.form_couple-n.ensures.value, c.form_couple-n.ensures.out_after) (c.append.ensures.value, c.append.ensures.out_after) (omega (arith, length_couple c.args.port c.args.x (omega arith) (omega arith))) in
-    record { value = h.0; text_after = h.1 }
+    let e = to_z-of_z w64 c.signed.result (search rules) in
+    let f = rw (e, c.signed.ensures, signed_own c.args.x (omega arith)) at c.push-2.ensures in
+    let g = couple_pushed c.args.port c.args.x c.new-line.ensures c.push.ensures f (omega arith) in
+    let h : c.as_bytes.result.now ≡ couple_line c.args.port c.args.x = c.as_bytes.ensures.value ∙ c.as_str.ensures.value ∙ g in
+    record { value = rw h at c.append.ensures.value; text_after = rw h at c.append.ensures.out_after }

@@ -1,17 +1,11 @@
--- `files::end_line` meets its contract: the line lies within its buffer, and is appended as it is. Assumes nothing.
-use native.Mathlib.Omega.{arith}
-use lib.ListN.{replicate}
+-- `files::end_line` meets its contract: the three numbers stand behind four bytes. Assumes nothing.
+use mathlib.Core.Path.{◌≡◌, refl, ◌∙◌}
 use Rattle.files.specs.Lines.{end_line}
-use Rattle.files.proofs.Lined.{length_end, formed_within, formed_appended}
 use Rattle.files.proofs.end_line.Goals as goal
 
-pub slice_bounds-line-end : goal.slice_bounds-line-end
-slice_bounds-line-end c = (formed_within (end_line c.args.number c.args.state c.args.edges) (replicate 37 0) (c.form_end-n.ensures.value, c.form_end-n.ensures.out_after) (omega (arith, length_end c.args.number c.args.state c.args.edges (omega arith) (omega arith) (omega arith)))).0
-
-pub slice_bounds-append-end : goal.slice_bounds-append-end
-slice_bounds-append-end c = (formed_within (end_line c.args.number c.args.state c.args.edges) (replicate 37 0) (c.form_end-n.ensures.value, c.form_end-n.ensures.out_after) (omega (arith, length_end c.args.number c.args.state c.args.edges (omega arith) (omega arith) (omega arith)))).1
-
 pub returns : goal.returns
+unfolding end_line
 returns c =
-    let h = formed_appended c.args.at (end_line c.args.number c.args.state c.args.edges) (replicate 37 0) c.args.text.now (c.form_end-n.ensures.value, c.form_end-n.ensures.out_after) (c.append.ensures.value, c.append.ensures.out_after) (omega (arith, length_end c.args.number c.args.state c.args.edges (omega arith) (omega arith) (omega arith))) in
-    record { value = h.0; text_after = h.1 }
+    let h : c.as_bytes.result.now ≡ end_line c.args.number c.args.state c.args.edges =
+    c.as_bytes.ensures.value ∙ c.as_str.ensures.value ∙ c.push_three.ensures ∙ rw (c.push_str.ensures.bytes, c.new-line.ensures) refl in
+    record { value = rw h at c.append.ensures.value; text_after = rw h at c.append.ensures.out_after }

@@ -1,23 +1,9 @@
 -- `files::input` meets its contract, by what `words` answers. Assumes nothing.
-use mathlib.Core.Path.{ap}
-use borrow.Author.Rules.{rules}
-use Rattle.files.specs.Files.{lent_of}
-use Rattle.files.proofs.Storing.{lent, lent_whole}
+use native.Mathlib.Omega.{arith}
+use Rattle.files.proofs.Bytes.{lent}
 use Rattle.files.proofs.input.Goals as goal
 
-pub returns-in-Whole : goal.returns-in-Whole
-returns-in-Whole c =
-    let h = lent_whole 1 c.args.bytes.now c.args.out.now c.in-Whole.is c.words-taken.ensures.value c.words-taken.ensures.out_after in
-    record { value = h.0; out_after = h.1.0; front = h.1.1 }
-
-pub returns-in-Ragged : goal.returns-in-Ragged
-unfolding lent_of
-returns-in-Ragged c =
-    let h = lent 1 c.args.bytes.now c.args.out.now (ap (lent_of 1) c.in-Ragged.is) c.words-taken.ensures.value c.words-taken.ensures.out_after (search rules) in
-    record { value = h.0; out_after = h.1.0; front = h.1.1 }
-
-pub returns-in-TooLong : goal.returns-in-TooLong
-unfolding lent_of
-returns-in-TooLong c =
-    let h = lent 1 c.args.bytes.now c.args.out.now (ap (lent_of 1) c.in-TooLong.is) c.words-taken.ensures.value c.words-taken.ensures.out_after (search rules) in
-    record { value = h.0; out_after = h.1.0; front = h.1.1 }
+pub returns : goal.returns
+returns c =
+    let h = lent 1 c.args.bytes.now c.args.out.now c.unwrap_or.ensures c.words.ensures.value c.words.ensures.out_after (omega arith) in
+    record { value = h.0; out_after = h.1; front = h.2 }

@@ -1,26 +1,17 @@
--- `files::number` meets its contract. The loop's invariant is `Reading`, a text of which i bytes were read; the bytes that are left fall
--- in number. Assumes nothing.
+-- `files::number` meets its contract, by what std promises of its parts. Assumes nothing.
+use mathlib.Core.Path.{◌∙◌}
 use native.Mathlib.Omega.{arith}
-use Rattle.files.proofs.Digits.{number_empty, reading_start, reading_below, reading_above, reading_large, reading_step, reading_end}
+use Rattle.files.proofs.Digits.{first_is, first_is_not, number_plus, number_foreign, same_text, number_read}
 use Rattle.files.proofs.number.Goals as goal
 
-pub returns-then-text-lt1 : goal.returns-then-text-lt1
-returns-then-text-lt1 c = number_empty c.args.text.now (omega arith)
+pub returns-then-eq : goal.returns-then-eq
+returns-then-eq c = number_plus c.args.text.now (first_is c.args.text.now 43 (cc (c.if-eq.true, c.eq.ensures, c.copied.ensures, c.first.ensures.value)))
 
-pub loop-at-init : goal.loop-at-init
-loop-at-init c = reading_start c.args.text.now (omega arith)
-
-pub returns-then-b-lt-ZERO : goal.returns-then-b-lt-ZERO
-returns-then-b-lt-ZERO c = reading_below c.loop-at.invariant c.loop-at-test.true c.if-b-lt-ZERO.true
-
-pub returns-then-b-gt-NINE : goal.returns-then-b-gt-NINE
-returns-then-b-gt-NINE c = reading_above c.loop-at.invariant c.loop-at-test.true c.if-b-gt-NINE.true
-
-pub returns-then-value-gt-MOST : goal.returns-then-value-gt-MOST
-returns-then-value-gt-MOST c = reading_large c.loop-at.invariant c.loop-at-test.true (omega arith) (omega arith) (omega arith)
-
-pub loop-at-preserved : goal.loop-at-preserved
-loop-at-preserved c = reading_step c.loop-at.invariant c.loop-at-test.true (omega arith) (omega arith) (omega arith)
+pub returns-in_err-digits : goal.returns-in_err-digits
+returns-in_err-digits c = c.from_residual.ensures ∙ number_foreign c.args.text.now c.from_utf8.result _ _ c.from_utf8.ensures.cases c.in_err-digits.ensures.value
 
 pub returns : goal.returns
-returns c = reading_end c.loop-at.invariant (omega arith)
+returns c =
+    let p = first_is_not c.args.text.now 43 (λ z. omega arith) (cc (c.if-eq.false, c.eq.ensures, c.copied.ensures, c.first.ensures.value)) in
+    let e = same_text c.args.text.now c.from_utf8.result c.in_ok-digits.digits _ c.from_utf8.ensures.cases c.in_ok-digits.ensures.value in
+    c.ok-2.ensures.value ∙ number_read c.args.text.now c.parse.result (rw e at c.parse.ensures.value.0) p

@@ -1,34 +1,91 @@
 -- `judge::judge_unmarked` meets its contract. Assumes nothing.
+use Rattle.std.proofs.Common.{refl}
+use Rattle.std.proofs.lemmas.Result.{err_from_is_err_and}
 use Rattle.table.proofs.Decoding.{edges_begin}
-use Rattle.judge.proofs.Decoded.{arrays, pair_sound, path_sound, target_room, judged_astray, judged_astray_second, judged_first_large, judged_second_large, judged_both}
+use Rattle.judge.proofs.Findings.{found_kept, found_broken, fits_if, large_if}
+use Rattle.judge.proofs.Decoded.{pair_sound, path_sound, target_room, judged_astray, judged_astray_second, judged_first_large, judged_second_large, judged_both}
 use Rattle.judge.proofs.judge_unmarked.Goals as goal
 
-pub leads-requires : goal.leads-requires
-leads-requires c = edges_begin _ c.requires.checks.0
+pub leads-here-requires : goal.leads-here-requires
+leads-here-requires c = edges_begin _ c.args.path.now.pair.images.checks.0
 
-pub returns-then-not-leads : goal.returns-then-not-leads
-returns-then-not-leads c = judged_astray _ _ _ c.requires.checks _ c.requires.i_bound.0 c.pair-pair.ensures _ c.requires.i_bound.1 c.word_at.ensures c.path-record.ensures c.pair-target.ensures c.requires.i_bound.2 c.requires.walked c.leads.ensures c.if-not-leads.true
+pub leads-there-requires : goal.leads-there-requires
+leads-there-requires c = edges_begin _ c.args.path.now.pair.images.checks.1
 
-pub leads-requires-2 : goal.leads-requires-2
-leads-requires-2 c = edges_begin _ c.requires.checks.1
+pub returns-in_err-found : goal.returns-in_err-found
+returns-in_err-found c =
+    let p = err_from_is_err_and c.from_residual.result c.from_residual.ensures.1 in
+    rw (p.1, p.2)
+    (found_broken _ _ _ c.found.ensures c.in_err-found.was
+    (λ h. judged_astray c.args.path.now.pair c.pair-pair.ensures _ c.args.path.now.among c.word_at.ensures c.path-record.ensures
+    c.pair-target.ensures c.requires c.args.path.now.walked c.leads-here.ensures h))
 
-pub returns-then-not-leads-2 : goal.returns-then-not-leads-2
-returns-then-not-leads-2 c = judged_astray_second _ _ _ c.requires.checks _ c.requires.i_bound.0 c.pair-pair.ensures _ c.requires.i_bound.1 c.word_at.ensures c.path-record.ensures c.pair-target.ensures c.requires.i_bound.2 c.requires.walked c.leads.ensures c.leads-2.ensures c.if-not-leads.false c.if-not-leads-2.true
+pub returns-in_err-found-2 : goal.returns-in_err-found-2
+returns-in_err-found-2 c =
+    let p = err_from_is_err_and c.from_residual-in_err-found-2.result c.from_residual-in_err-found-2.ensures.1 in
+    let here = found_kept _ _ _ c.found.ensures c.in_ok-found.was in
+    rw (p.1, p.2)
+    (found_broken _ _ _ c.found-2.ensures c.in_err-found-2.was
+    (λ h. judged_astray_second c.args.path.now.pair c.pair-pair.ensures _ c.args.path.now.among c.word_at.ensures c.path-record.ensures
+    c.pair-target.ensures c.requires c.args.path.now.walked c.leads-here.ensures c.leads-there.ensures here h))
 
-pub follow-one-requires : goal.follow-one-requires
-follow-one-requires c = (c.requires.checks.0, ((pair_sound _ _ _ c.requires.checks _ c.requires.i_bound.0 c.pair-pair.ensures).first, (path_sound _ _ _ c.requires.checks _ c.requires.i_bound.0 c.pair-pair.ensures _ c.requires.i_bound.1 c.word_at.ensures c.path-record.ensures).short))
+pub follow-first_followed-requires : goal.follow-first_followed-requires
+follow-first_followed-requires c =
+    let k = c.args.path.now.pair.images.checks in (
+      k.0,
+      (
+        (pair_sound c.args.path.now.pair c.pair-pair.ensures).first,
+        (path_sound c.args.path.now.pair c.pair-pair.ensures _
+            c.args.path.now.among c.word_at.ensures c.path-record.ensures).short,
+      ),
+    )
 
-pub follow-other-requires : goal.follow-other-requires
-follow-other-requires c = (c.requires.checks.1, ((pair_sound _ _ _ c.requires.checks _ c.requires.i_bound.0 c.pair-pair.ensures).second, (path_sound _ _ _ c.requires.checks _ c.requires.i_bound.0 c.pair-pair.ensures _ c.requires.i_bound.1 c.word_at.ensures c.path-record.ensures).short2))
+pub returns-in_err-found-3 : goal.returns-in_err-found-3
+returns-in_err-found-3 c =
+    let p = err_from_is_err_and c.from_residual-in_err-found-3.result c.from_residual-in_err-found-3.ensures.1 in
+    let here = found_kept _ _ _ c.found.ensures c.in_ok-found.was in
+    let there = found_kept _ _ _ c.found-2.ensures c.in_ok-found-2.was in
+    rw (p.1, p.2)
+    (found_broken _ _ _ c.found-3.ensures c.in_err-found-3.was
+    (λ h. judged_first_large c.args.path.now.pair c.pair-pair.ensures _ c.args.path.now.among c.word_at.ensures c.path-record.ensures
+    c.pair-target.ensures c.requires c.args.path.now.walked c.leads-here.ensures c.leads-there.ensures here there _ _
+    c.follow-first_followed.ensures (large_if _ c.is_ok.ensures.value h)))
+
+pub follow-second_followed-requires : goal.follow-second_followed-requires
+follow-second_followed-requires c =
+    let k = c.args.path.now.pair.images.checks in (
+      k.1,
+      (
+        (pair_sound c.args.path.now.pair c.pair-pair.ensures).second,
+        (path_sound c.args.path.now.pair c.pair-pair.ensures _
+            c.args.path.now.among c.word_at.ensures c.path-record.ensures).short2,
+      ),
+    )
+
+pub returns-in_err-found-4 : goal.returns-in_err-found-4
+returns-in_err-found-4 c =
+    let p = err_from_is_err_and c.from_residual-in_err-found-4.result c.from_residual-in_err-found-4.ensures.1 in
+    let here = found_kept _ _ _ c.found.ensures c.in_ok-found.was in
+    let there = found_kept _ _ _ c.found-2.ensures c.in_ok-found-2.was in
+    let fits = fits_if _ c.is_ok.ensures.value (found_kept _ _ _ c.found-3.ensures c.in_ok-found-3.was) in
+    rw (p.1, p.2)
+    (found_broken _ _ _ c.found-4.ensures c.in_err-found-4.was
+    (λ h. judged_second_large c.args.path.now.pair c.pair-pair.ensures _ c.args.path.now.among c.word_at.ensures c.path-record.ensures
+    c.pair-target.ensures c.requires c.args.path.now.walked c.leads-here.ensures c.leads-there.ensures here there _ _
+    c.follow-first_followed.ensures fits _ c.args.path.now.partner_symbols _ _
+    c.follow-second_followed.ensures (large_if _ c.is_ok-2.ensures.value h)))
 
 pub judge_sides-requires : goal.judge_sides-requires
-judge_sides-requires c = target_room _ _ _ c.requires.checks _ c.requires.i_bound.0 c.pair-pair.ensures _ c.requires.i_bound.1 c.word_at.ensures c.path-record.ensures c.pair-target.ensures
+judge_sides-requires c =
+    target_room c.args.path.now.pair c.pair-pair.ensures _ c.args.path.now.among c.word_at.ensures c.path-record.ensures c.pair-target.ensures
 
-pub returns-in-TooLarge : goal.returns-in-TooLarge
-returns-in-TooLarge c = judged_first_large _ _ _ c.requires.checks _ c.requires.i_bound.0 c.pair-pair.ensures _ c.requires.i_bound.1 c.word_at.ensures c.path-record.ensures c.pair-target.ensures c.requires.i_bound.2 c.requires.walked c.leads.ensures c.leads-2.ensures c.if-not-leads.false c.if-not-leads-2.false _ c.requires.own_symbols.0 (arrays _ _ _ c.follow-one.ensures.lengths) _ _ c.follow-one.ensures.followed c.in-TooLarge.is
-
-pub returns-in-TooLarge-other_size : goal.returns-in-TooLarge-other_size
-returns-in-TooLarge-other_size c = judged_second_large _ _ _ c.requires.checks _ c.requires.i_bound.0 c.pair-pair.ensures _ c.requires.i_bound.1 c.word_at.ensures c.path-record.ensures c.pair-target.ensures c.requires.i_bound.2 c.requires.walked c.leads.ensures c.leads-2.ensures c.if-not-leads.false c.if-not-leads-2.false _ c.requires.own_symbols.0 (arrays _ _ _ c.follow-one.ensures.lengths) _ _ c.follow-one.ensures.followed c.in-Fits.is _ c.requires.own_symbols.1 (arrays _ _ _ c.follow-other.ensures.lengths) _ _ c.follow-other.ensures.followed c.in-TooLarge-other_size.is
-
-pub returns-in-Fits-other_size : goal.returns-in-Fits-other_size
-returns-in-Fits-other_size c = judged_both _ _ _ c.requires.checks _ c.requires.i_bound.0 c.pair-pair.ensures _ c.requires.i_bound.1 c.word_at.ensures c.path-record.ensures c.pair-target.ensures c.requires.i_bound.2 c.requires.walked c.leads.ensures c.leads-2.ensures c.if-not-leads.false c.if-not-leads-2.false _ c.requires.own_symbols.0 (arrays _ _ _ c.follow-one.ensures.lengths) _ _ c.follow-one.ensures.followed c.in-Fits.is _ c.requires.own_symbols.1 (arrays _ _ _ c.follow-other.ensures.lengths) _ _ c.follow-other.ensures.followed c.in-Fits-other_size.is c.word_at-in-Fits-other_size.ensures c.judge_sides.ensures
+pub returns : goal.returns
+returns c =
+    let here = found_kept _ _ _ c.found.ensures c.in_ok-found.was in
+    let there = found_kept _ _ _ c.found-2.ensures c.in_ok-found-2.was in
+    let fits = fits_if _ c.is_ok.ensures.value (found_kept _ _ _ c.found-3.ensures c.in_ok-found-3.was) in
+    let fits2 = fits_if _ c.is_ok-2.ensures.value (found_kept _ _ _ c.found-4.ensures c.in_ok-found-4.was) in
+    judged_both c.args.path.now.pair c.pair-pair.ensures _ c.args.path.now.among c.word_at.ensures c.path-record.ensures c.pair-target.ensures
+    c.requires c.args.path.now.walked c.leads-here.ensures c.leads-there.ensures here there _ _
+    c.follow-first_followed.ensures fits _ c.args.path.now.partner_symbols _ _
+    c.follow-second_followed.ensures fits2 refl c.judge_sides.ensures

@@ -1,25 +1,27 @@
 -- `judge::stops` meets its contract. Assumes nothing.
-use Prim.Native.Nat.{ℕ, zero, suc}
 use mathlib.Core.Path.{◌≡◌, refl, sym, ◌∙◌, ap}
+use mathlib.Core.Bool.{true, false}
 use mathlib.Core.List.{List}
-use lib.Dec.{eqb}
-use native.Mathlib.Omega.{arith}
-use borrow.Author.Tests.{ne_eqb}
-use Rattle.model.specs.Table.{state_of, table_of}
+use Prim.Native.Nat.{ℕ}
 use Rattle.model.specs.Run.{is_stop}
-use Rattle.table.specs.Checks.{state_record}
-use Rattle.table.specs.declared.StateRecord.{StateRecord}
-use Rattle.table.proofs.Decoding.{state_decoded}
+use Rattle.table.specs.declared.decoded.State.{State}
+use Rattle.table.specs.declared.decoded.State.TheVariants.{Stop, Step, Test}
+use Rattle.table.specs.Decoded.{state_meant}
+use Rattle.table.proofs.Decoding.{state_meant_lem}
 use Rattle.judge.proofs.stops.Goals as goal
 
-by_kind : (image : List ℕ) (k l r t f : ℕ) → eqb k 0 ≡ is_stop (state_of image k l r t f)
-unfolding is_stop state_of
-by_kind image zero l r t f = refl
-by_kind image (suc zero) l r t f = refl
-by_kind image (suc (suc k)) l r t f = ne_eqb (suc (suc k)) 0 (λ z. omega arith)
+stop_meant : (image : List ℕ) {s : State} → s ≡ Stop → true ≡ is_stop (state_meant image s)
+unfolding is_stop state_meant
+stop_meant image e = sym (ap (λ s. is_stop (state_meant image s)) e)
 
-is_stop_lem : (image : List ℕ) (s : ℕ) {r : StateRecord} → r ≡ state_record image s → eqb r.kind 0 ≡ is_stop (table_of image s)
-is_stop_lem image s {r} e = by_kind image r.kind _ _ _ _ ∙ ap is_stop (sym (state_decoded image s e))
+other_meant : (image : List ℕ) (s : State) → (s ≡ Stop → ⊥) → false ≡ is_stop (state_meant image s)
+unfolding is_stop state_meant
+other_meant image Stop h = absurd (h refl)
+other_meant image (Step e) h = refl
+other_meant image (Test k l r t f) h = refl
 
-pub returns : goal.returns
-returns c = is_stop_lem _ _ c.state-record.ensures
+pub returns-in-Stop : goal.returns-in-Stop
+returns-in-Stop c = stop_meant c.args.table.now c.in-Stop.is ∙ ap is_stop (sym (state_meant_lem _ _ c.state.ensures c.from.ensures))
+
+pub returns-in_default : goal.returns-in_default
+returns-in_default c = other_meant c.args.table.now _ c.in_default.not-Stop ∙ ap is_stop (sym (state_meant_lem _ _ c.state.ensures c.from.ensures))

@@ -2,8 +2,5 @@
 use Rattle.list.proofs.Linking.{Linking}
 use Rattle.list.proofs.partners.Given as goal
 
-abbrev pub invariant-loop-left : goal.invariant-loop-left
-invariant-loop-left l = Linking l.list l.first l.count l.symbols l.left
-
-abbrev pub decreases-loop-left : goal.decreases-loop-left
-decreases-loop-left l = l.left
+abbrev pub invariant-loop-i : goal.invariant-loop-i
+invariant-loop-i l = Linking l.list l.first l.count l.symbols l.i

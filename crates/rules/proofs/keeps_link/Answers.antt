@@ -1,5 +1,5 @@
 -- `rules::keeps_link` is whether two variables have the same sum. Assumes nothing.
-use Rattle.rules.proofs.Settling.{keeps_is}
+use Rattle.rules.proofs.Members.{keeps_is}
 use Rattle.rules.proofs.keeps_link.Goals as goal
 
 pub returns : goal.returns

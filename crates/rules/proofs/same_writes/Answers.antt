@@ -1,21 +1,17 @@
--- `rules::same_writes` is rule 18 on the writes of two sides. Assumes nothing.
-use mathlib.Core.Path.{◌∙◌}
-use native.Mathlib.Omega.{arith}
-use Rattle.rules.specs.Rules.{same_writes_in}
-use Rattle.rules.proofs.Searching.{all_step, all_broken, all_end, all_ports, writes_differ_lem, writes_agree}
+-- `rules::same_writes` is rule 18. Assumes nothing.
+use Rattle.std.proofs.Common.{◌∙◌, rules}
+use borrow.Author.Tests.{tests}
+use Rattle.std.proofs.lemmas.Iterator.{YieldsList-from_slice, YieldsList-from_zip}
+use Rattle.std.proofs.lemmas.Iterator.Search.{all_from_yields_List}
+use Rattle.model.specs.Sum.{same}
+use Rattle.sum.specs.Packed.{same_k}
+use Rattle.side.specs.Parts.{Port, written_on}
+use Rattle.rules.proofs.Members.{writes_zip}
 use Rattle.rules.proofs.same_writes.Goals as goal
 
-pub returns-then-n-m : goal.returns-then-n-m
-unfolding same_writes_in
-returns-then-n-m c = all_broken _ _ _ _ _ c.loop-p.invariant (omega (arith, c.loop-p-test.true)) (writes_differ_lem _ _ _ _ _ c.held-n.ensures c.held-m.ensures c.if-n-m.true) ∙ all_ports _
-
-pub returns-then-not-same_port : goal.returns-then-not-same_port
-unfolding same_writes_in
-returns-then-not-same_port c = all_broken _ _ _ _ _ c.loop-p.invariant (omega (arith, c.loop-p-test.true)) (writes_agree _ _ _ _ _ c.held-n.ensures c.held-m.ensures c.if-n-m.false c.same_port.ensures ∙ c.if-not-same_port.true) ∙ all_ports _
-
-pub loop-p-preserved : goal.loop-p-preserved
-loop-p-preserved c = all_step _ _ _ _ _ c.loop-p.invariant (omega (arith, c.loop-p-test.true)) (writes_agree _ _ _ _ _ c.held-n.ensures c.held-m.ensures c.if-n-m.false c.same_port.ensures ∙ c.if-not-same_port.false)
-
 pub returns : goal.returns
-unfolding same_writes_in
-returns c = all_end _ _ _ _ _ c.loop-p.invariant (omega (arith, c.loop-p-test.false)) ∙ all_ports _
+returns c =
+    all_from_yields_List (λ (p : Port × Port). same same_k (written_on p.0) (written_on p.1)) c.all.new.self _ _ c.all.ensures.ran
+    (YieldsList-from_zip (YieldsList-from_slice c.args.first.now cc) (YieldsList-from_slice c.args.second.now cc))
+    (λ x b q k. search (rules, tests))
+    ∙ writes_zip c.args.first.now c.args.second.now (search) (search)

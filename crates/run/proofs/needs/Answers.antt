@@ -2,20 +2,24 @@
 -- Assumes nothing.
 use native.Mathlib.Omega.{arith}
 use Rattle.table.proofs.Decoding.{counts}
-use Rattle.run.proofs.Spending.{spending_step, needed_none, needed_all, found_sound, found_is}
+use Rattle.run.proofs.Spending.{port_fits, spending_start, spending_step, needed_none, needed_all}
 use Rattle.run.proofs.needs.Goals as goal
 
-pub spent-so_far-requires : goal.spent-so_far-requires
-spent-so_far-requires c = (λ e. (found_sound _ c.requires.0 _ c.requires.1 c.action-action.ensures (omega (arith, c.requires.2, c.loop-n.invariant))).port (omega arith), omega (arith, c.loop-n.invariant.few))
+pub overflow_add-i-end : goal.overflow_add-i-end
+overflow_add-i-end c = omega (arith, (counts _ c.args.table.now.passed).1.1)
 
-pub returns-then-so_far-gt16 : goal.returns-then-so_far-gt16
-returns-then-so_far-gt16 c = needed_none _ _ _ _ _ _ _ _ _ _ c.loop-n.invariant c.loop-n-test.true (found_is _ c.requires.0 _ c.requires.1 c.action-action.ensures) c.spent-so_far.ensures.0 c.if-so_far-gt16.true
+pub loop-i-init : goal.loop-i-init
+loop-i-init c = spending_start _ _ _ c.requires.1
 
-pub overflow_add-i : goal.overflow_add-i
-overflow_add-i c = omega (arith, c.requires.2, (counts _ c.requires.0).1.1, c.loop-n.invariant.place)
+pub spent-requires-clause-ports : goal.spent-requires-clause-ports
+spent-requires-clause-ports c p v e = port_fits _ c.action.ensures.fits e
 
-pub loop-n-preserved : goal.loop-n-preserved
-loop-n-preserved c = spending_step _ _ _ _ _ _ _ _ _ _ c.loop-n.invariant c.loop-n-test.true (found_is _ c.requires.0 _ c.requires.1 c.action-action.ensures) c.spent-so_far.ensures c.if-so_far-gt16.false
+pub returns-in_err-writes : goal.returns-in_err-writes
+returns-in_err-writes c =
+    rw c.from_residual.ensures (record { need = needed_none c.loop-i.invariant c.loop-i-test.true c.action.ensures.meant (c.spent.ensures.count _) _ c.in_err-writes.was; few = tt })
+
+pub loop-i-preserved : goal.loop-i-preserved
+loop-i-preserved c = spending_step c.loop-i.invariant c.loop-i-test.true c.action.ensures.meant (c.spent.ensures.count _) c.in_ok-writes.was (c.spent.ensures.left_after _)
 
 pub returns : goal.returns
-returns c = needed_all _ _ _ _ _ _ _ _ c.loop-n.invariant (omega arith)
+returns c = record { need = needed_all c.loop-i.invariant c.loop-i-test.false; few = omega (arith, c.loop-i.invariant.few) }

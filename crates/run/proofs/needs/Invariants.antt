@@ -1,11 +1,7 @@
 -- `run::needs` meets its contract. The loop's invariant is `Spending`: what the actions need from here on is what all of them need.
 -- Assumes nothing.
-use Rattle.run.specs.Held.{needing}
 use Rattle.run.proofs.Spending.{Spending}
 use Rattle.run.proofs.needs.Given as goal
 
-abbrev pub invariant-loop-n : goal.invariant-loop-n
-invariant-loop-n l = Spending l.table (needing l.initial.left 0) l.first l.count (needing l.left l.writes) l.i l.n
-
-abbrev pub decreases-loop-n : goal.decreases-loop-n
-decreases-loop-n l = l.n
+abbrev pub invariant-loop-i : goal.invariant-loop-i
+invariant-loop-i l = Spending l.table.image.now l.initial.left l.fn.edge l.left l.writes l.i

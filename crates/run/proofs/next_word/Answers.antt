@@ -4,14 +4,11 @@ use native.Mathlib.Omega.{arith}
 use Rattle.run.proofs.Input.{look_step, look_found, look_none}
 use Rattle.run.proofs.next_word.Goals as goal
 
-pub returns-then-input-at-lt2 : goal.returns-then-input-at-lt2
-returns-then-input-at-lt2 c = look_none _ _ _ _ c.loop-at.invariant (omega arith)
+pub returns-then-input-i : goal.returns-then-input-i
+returns-then-input-i c = look_found c.loop-i.invariant (omega arith) c.if-input-i.true
 
-pub returns-then-input-at : goal.returns-then-input-at
-returns-then-input-at c = look_found _ _ _ _ c.loop-at.invariant (omega arith) c.if-input-at.true
-
-pub loop-at-preserved : goal.loop-at-preserved
-loop-at-preserved c = look_step _ _ _ _ c.loop-at.invariant (omega arith) c.if-input-at.false
+pub loop-i-preserved : goal.loop-i-preserved
+loop-i-preserved c = look_step c.loop-i.invariant (omega arith) c.if-input-i.false
 
 pub returns : goal.returns
-returns c = look_none _ _ _ _ c.loop-at.invariant (omega arith)
+returns c = look_none c.loop-i.invariant (omega arith)

@@ -1,22 +1,20 @@
 -- `run::run` meets its contract. Assumes nothing.
 use mathlib.Core.Path.{◌∙◌}
-use Rattle.run.proofs.Answering.{refused_table, refused_input, passed_both, ran_whole}
+use Rattle.run.proofs.Answering.{nothing_found, refused_run, ended_run}
 use Rattle.run.proofs.run.Goals as goal
 
+pub new-requires : goal.new-requires
+new-requires c = (nothing_found _ _ c.check.ensures c.in-Ok.is).0
+
 pub walk-requires : goal.walk-requires
-walk-requires c = passed_both _ _ c.check.ensures c.in-Sound.is c.is_input.ensures c.if-is_input.true
+walk-requires c = (nothing_found _ _ c.check.ensures c.in-Ok.is).1
 
-pub returns-then-is_input : goal.returns-then-is_input
-returns-then-is_input c =
-    let whole = ran_whole _ _ _ _ c.check.ensures c.in-Sound.is c.is_input.ensures c.if-is_input.true in
-    record { value = c.walk.ensures.value ∙ whole.0; out_after = c.walk.ensures.out_after ∙ whole.1 }
+pub returns-in-Err : goal.returns-in-Err
+returns-in-Err c =
+    let a = refused_run _ _ c.args.limit c.args.out.now c.check.ensures c.in-Err.is in
+    record { value = c.from.ensures ∙ a.0; out_after = a.1 }
 
-pub returns-in-Broken : goal.returns-in-Broken
-returns-in-Broken c =
-    let a = refused_table _ _ _ _ c.check.ensures c.in-Broken.is in
-    record { value = c.refused.ensures ∙ a.0; out_after = a.1 }
-
-pub returns-else-is_input : goal.returns-else-is_input
-returns-else-is_input c =
-    let a = refused_input _ _ _ _ c.check.ensures c.in-Sound.is c.is_input.ensures c.if-is_input.false in
-    record { value = c.refused-in-Sound.ensures ∙ a.0; out_after = a.1 }
+pub returns-in-Ok : goal.returns-in-Ok
+returns-in-Ok c =
+    let a = ended_run _ _ _ _ c.check.ensures c.in-Ok.is c.new.ensures c.walk.ensures.value c.walk.ensures.out_after in
+    record { value = c.from-in-Ok.ensures ∙ a.0; out_after = a.1 }

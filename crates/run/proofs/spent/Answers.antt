@@ -1,15 +1,24 @@
 -- `run::spent` meets its contract. Assumes nothing.
+use Prim.Native.Nat.{ℕ}
+use mathlib.Core.Path.{◌∙◌}
+use mathlib.Core.List.{List}
 use Rattle.run.proofs.Spending.{spent_none, spent_lacks, spent_takes, spent_writes}
 use Rattle.run.proofs.spent.Goals as goal
 
-pub returns-then-kind-eq0 : goal.returns-then-kind-eq0
-returns-then-kind-eq0 c = spent_none _ _ _ _ c.if-kind-eq0.true
+pub returns-in_err-left-in-Read : goal.returns-in_err-left-in-Read
+returns-in_err-left-in-Read c =
+    let lacks = λ (code : List ℕ). spent_lacks _ c.args.writes code c.in-Read.is c.in_err-left-in-Read.ensures in
+    record { count = λ code. c.from_residual.ensures ∙ (lacks code).0; left_after = λ code. (lacks code).1 }
 
-pub returns-then-words-eq0 : goal.returns-then-words-eq0
-returns-then-words-eq0 c = spent_lacks _ _ _ _ c.if-kind-eq1.true c.if-words-eq0.true
+pub returns-in-Assign : goal.returns-in-Assign
+returns-in-Assign c =
+    record { count = λ code. (spent_none _ _ code c.in-Assign.is).0; left_after = λ code. (spent_none _ _ code c.in-Assign.is).1 }
 
-pub returns-then-kind-eq1 : goal.returns-then-kind-eq1
-returns-then-kind-eq1 c = spent_takes _ _ _ _ c.if-kind-eq1.true c.if-words-eq0.false
+pub returns-in_ok-left-in-Read : goal.returns-in_ok-left-in-Read
+returns-in_ok-left-in-Read c =
+    let takes = λ (code : List ℕ). spent_takes _ c.args.writes code c.in-Read.is c.in_ok-left-in-Read.ensures in
+    record { count = λ code. (takes code).0; left_after = λ code. (takes code).1 }
 
-pub returns : goal.returns
-returns c = spent_writes _ _ _ _ c.if-kind-eq0.false c.if-kind-eq1.false
+pub returns-in-Write : goal.returns-in-Write
+returns-in-Write c =
+    record { count = λ code. (spent_writes _ _ code c.in-Write.is).0; left_after = λ code. (spent_writes _ _ code c.in-Write.is).1 }

@@ -1,50 +1,44 @@
 -- `run::walk` meets its contract. The loop's invariant is `Walking`: the run from here on ends as the run from reset does. Assumes nothing.
-use mathlib.Core.Path.{◌∙◌}
+use mathlib.Core.Path.{◌≡◌, ◌∙◌, ap}
 use native.Mathlib.Omega.{arith}
-use Rattle.run.proofs.Walking.{stops, goes_on_lem, test_read, edge_inside, edge_taken, walk_start, ends_stop, ends_limit, ends_input, ends_room, roomy, walk_step}
+use Rattle.run.specs.Answers.{ended_at}
+use Rattle.run.proofs.Walking.{stops, goes_on_lem, walk_start, ends_stop, ends_limit, ends_input, ends_room, roomy, walk_step}
 use Rattle.run.proofs.walk.Goals as goal
 
 pub loop-done-init : goal.loop-done-init
-loop-done-init c = walk_start _ _ _ _ _ c.requires.0 c.given-left.ensures
+loop-done-init c = walk_start _ _ _ _ _ _ c.args.table.now.passed c.new-hand.ensures c.given-left.ensures
 
-pub returns-then-record-eq0 : goal.returns-then-record-eq0
-returns-then-record-eq0 c =
-    let a = ends_stop _ _ _ _ c.requires.0 _ _ _ _ _ c.loop-done.invariant (stops _ c.requires.0 _ c.state-record.ensures c.if-record-eq0.true) in
-    record { value = c.ended.ensures ∙ a.0; out_after = a.1 }
+pub returns-in_default : goal.returns-in_default
+returns-in_default c =
+    let a = ends_stop c.loop-done.invariant c.in_default.ensures.stops in
+    record { value = c.at.ensures ∙ a.0; out_after = a.1 }
 
-pub chosen-requires : goal.chosen-requires
-chosen-requires c = test_read _ c.requires.0 _ c.state-record.ensures _ c.code_area-code.ensures c.loop-done.invariant.inside
+pub returns-in_default-needs : goal.returns-in_default-needs
+returns-in_default-needs c =
+    let a = ends_input c.loop-done.invariant c.loop-done-test.true c.in-Some.ensures.leaves c.needs.ensures.need c.in_default-needs.is in
+    record { value = c.at-in_default-needs.ensures ∙ a.0; out_after = a.1 }
 
-pub needs-writes-requires : goal.needs-writes-requires
-needs-writes-requires c =
-    let e = edge_inside _ c.requires.0 _ c.state-record.ensures _ _ c.if-record-eq0.false c.code_area-code.ensures c.chosen.ensures c.word_at-edges_at.ensures c.edge-edge.ensures c.loop-done.invariant.inside in
-    (c.requires.0, c.word_at-actions_at.ensures, e.range, e.count)
+pub returns-then-out-hand : goal.returns-then-out-hand
+returns-then-out-hand c =
+    let a = ends_room c.loop-done.invariant c.loop-done-test.true c.in-Some.ensures.leaves c.needs.ensures.need c.in-Some-needs.is c.if-out-hand.true in
+    record { value = c.at-then-out-hand.ensures ∙ a.0; out_after = a.1 }
 
-pub returns-then-writes-gt16 : goal.returns-then-writes-gt16
-returns-then-writes-gt16 c =
-    let e = edge_inside _ c.requires.0 _ c.state-record.ensures _ _ c.if-record-eq0.false c.code_area-code.ensures c.chosen.ensures c.word_at-edges_at.ensures c.edge-edge.ensures c.loop-done.invariant.inside in
-    let a = ends_input _ _ _ _ c.requires.0 _ _ _ _ _ c.loop-done.invariant _ _ _ c.loop-done-test.true (goes_on_lem _ c.requires.0 _ c.state-record.ensures c.if-record-eq0.false) (edge_taken _ c.requires.0 _ c.state-record.ensures _ _ c.if-record-eq0.false c.code_area-code.ensures c.chosen.ensures c.word_at-edges_at.ensures c.edge-edge.ensures) c.needs-writes.ensures e.count c.if-writes-gt16.true in
-    record { value = c.ended-then-writes-gt16.ensures ∙ a.0; out_after = a.1 }
-
-pub returns-then-out-written : goal.returns-then-out-written
-returns-then-out-written c =
-    let a = ends_room _ _ _ _ c.requires.0 _ _ _ _ _ c.loop-done.invariant _ _ _ c.loop-done-test.true (goes_on_lem _ c.requires.0 _ c.state-record.ensures c.if-record-eq0.false) (edge_taken _ c.requires.0 _ c.state-record.ensures _ _ c.if-record-eq0.false c.code_area-code.ensures c.chosen.ensures c.word_at-edges_at.ensures c.edge-edge.ensures) c.needs-writes.ensures c.if-writes-gt16.false c.if-out-written.true in
-    record { value = c.ended-then-out-written.ensures ∙ a.0; out_after = a.1 }
-
-pub perform-written-requires : goal.perform-written-requires
-perform-written-requires c =
-    let e = edge_inside _ c.requires.0 _ c.state-record.ensures _ _ c.if-record-eq0.false c.code_area-code.ensures c.chosen.ensures c.word_at-edges_at.ensures c.edge-edge.ensures c.loop-done.invariant.inside in
-    record { sound = (c.requires.0, c.word_at-actions_at.ensures, c.code_area-code.ensures, e.range); places = c.loop-done.invariant.four; room = roomy _ _ _ _ c.requires.0 _ _ _ _ _ c.loop-done.invariant _ _ _ c.loop-done-test.true (goes_on_lem _ c.requires.0 _ c.state-record.ensures c.if-record-eq0.false) (edge_taken _ c.requires.0 _ c.state-record.ensures _ _ c.if-record-eq0.false c.code_area-code.ensures c.chosen.ensures c.word_at-edges_at.ensures c.edge-edge.ensures) c.needs-writes.ensures c.if-writes-gt16.false (omega (arith, c.if-out-written.false)) }
+pub perform-requires-clause-room : goal.perform-requires-clause-room
+perform-requires-clause-room c =
+    roomy c.loop-done.invariant c.loop-done-test.true c.in-Some.ensures.leaves c.needs.ensures.need c.in-Some-needs.is c.if-out-hand.false
 
 pub loop-done-preserved : goal.loop-done-preserved
-loop-done-preserved c = walk_step _ _ _ _ c.requires.0 _ _ _ _ _ c.loop-done.invariant _ _ _ c.loop-done-test.true (goes_on_lem _ c.requires.0 _ c.state-record.ensures c.if-record-eq0.false) (edge_taken _ c.requires.0 _ c.state-record.ensures _ _ c.if-record-eq0.false c.code_area-code.ensures c.chosen.ensures c.word_at-edges_at.ensures c.edge-edge.ensures) c.needs-writes.ensures _ _ (edge_inside _ c.requires.0 _ c.state-record.ensures _ _ c.if-record-eq0.false c.code_area-code.ensures c.chosen.ensures c.word_at-edges_at.ensures c.edge-edge.ensures c.loop-done.invariant.inside).target c.if-writes-gt16.false (omega (arith, c.if-out-written.false)) c.perform-written.ensures.out_after c.perform-written.ensures.places
+loop-done-preserved c =
+    walk_step c.loop-done.invariant c.loop-done-test.true c.in-Some.ensures.leaves c.needs.ensures.need c.in-Some-needs.is c.if-out-hand.false _ _ c.perform.ensures
 
-pub returns-then-record-eq0-2 : goal.returns-then-record-eq0-2
-returns-then-record-eq0-2 c =
-    let a = ends_stop _ _ _ _ c.requires.0 _ _ _ _ _ c.loop-done.invariant (stops _ c.requires.0 _ c.state-record-2.ensures c.if-record-eq0-2.true) in
-    record { value = c.ended-then-record-eq0-2.ensures ∙ a.0; out_after = a.1 }
+pub returns-in-Stop : goal.returns-in-Stop
+returns-in-Stop c =
+    let all : c.args.limit ≡ c.loop-done.done = omega arith in
+    let a = ends_stop c.loop-done.invariant (stops _ _ c.state.ensures.meant c.in-Stop.is) in
+    record { value = c.at-in-Stop.ensures ∙ ap (ended_at c.loop-done.hand _ c.loop-done.state) all ∙ a.0; out_after = a.1 }
 
-pub returns : goal.returns
-returns c =
-    let a = ends_limit _ _ _ _ c.requires.0 _ _ _ _ _ c.loop-done.invariant (omega (arith, c.loop-done-test.false)) (goes_on_lem _ c.requires.0 _ c.state-record-2.ensures c.if-record-eq0-2.false) in
-    record { value = c.ended-2.ensures ∙ a.0; out_after = a.1 }
+pub returns-in_default-state : goal.returns-in_default-state
+returns-in_default-state c =
+    let all : c.args.limit ≡ c.loop-done.done = omega arith in
+    let a = ends_limit c.loop-done.invariant c.loop-done-test.false (goes_on_lem _ _ c.state.ensures.meant c.in_default-state.not-Stop) in
+    record { value = c.at-in_default-state.ensures ∙ ap (ended_at c.loop-done.hand _ c.loop-done.state) all ∙ a.0; out_after = a.1 }

@@ -1,35 +1,24 @@
--- `sum::grow_row` collects the products of a term with each term of a sum. Assumes nothing.
-use mathlib.Core.Path.{ap, ◌∙◌}
-use native.Mathlib.Omega.{arith}
-use lib.ListN.{take}
+-- `sum::grow_row` collects the products of a term with each of others. Assumes nothing.
+use Rattle.std.proofs.Common.{◌∙◌, sym, arith}
+use Rattle.std.proofs.lemmas.Result.{err_from_is_err_and}
 use Rattle.model.specs.Word.{base}
-use Rattle.sum.specs.Packed.{term_product_k, products_k, gathered, gather_k, sized_of, grown_of, terms_of}
-use Rattle.sum.proofs.Product.{multiply_step, multiply_stop, multiply_end, grown_fits, grown_large}
+use Rattle.sum.specs.Packed.{term_product_k}
+use Rattle.sum.proofs.Product.{multiply_step, multiply_stop, multiply_end}
 use Rattle.sum.proofs.grow_row.Goals as goal
 
-pub returns-in-TooLarge : goal.returns-in-TooLarge
-unfolding terms_of
-returns-in-TooLarge c = (
-  c.grow-next.ensures.0
-      ∙ grown_large _ _ c.grow-next.result _ c.in-TooLarge.is c.grow-next.ensures.0
-      ∙ multiply_stop base _ _ _ _ _ _ c.loop-i.invariant.0 c.loop-i-test.true (grown_large _ _ c.grow-next.result _ c.in-TooLarge.is c.grow-next.ensures.0)
-      ∙ ap (λ k. gather_k base (products_k (term_product_k base c.args.t) (take k c.args.s.terms)) (gathered c.args.coefs.now c.args.monos.now c.args.n)) c.count-m.ensures,
-  omega (arith, c.grow-next.ensures.1, c.count-m.ensures, c.loop-i.invariant.1, c.loop-i-test.true),
-)
+pub returns-in_err-grow-clause-err : goal.returns-in_err-grow-clause-err
+returns-in_err-grow-clause-err g c =
+    rw (err_from_is_err_and c.from_residual.result c.from_residual.ensures.1).1
+    (multiply_stop base (term_product_k base c.args.t) c.args.us.now c.loop-u.ts.items c.loop-u.u-index c.loop-u-test.true c.in_err-grow.ensures.err
+    ∙ c.loop-u.invariant.rest)
 
-pub loop-i-preserved : goal.loop-i-preserved
-loop-i-preserved c = (
-  multiply_step base _ _ _ _ _ _ _ c.loop-i.invariant.0 c.loop-i-test.true (grown_fits _ _ c.grow-next.result _ c.in-Fits.is c.grow-next.ensures.0),
-  omega (arith, c.grow-next.ensures.1, c.loop-i.invariant.1),
-  c.loop-i.invariant.2,
-  omega (arith, c.grow-next.auto.coefs, c.loop-i.invariant.3),
-  omega (arith, c.grow-next.auto.monos, c.loop-i.invariant.4),
-)
+pub loop-u-preserved : goal.loop-u-preserved
+loop-u-preserved g c = record {
+  rest = multiply_step base (term_product_k base c.args.t) c.args.us.now c.loop-u.ts.items c.loop-u.u-index _ c.loop-u-test.true c.in_ok-grow.ensures.ok
+      ∙ c.loop-u.invariant.rest;
+  few = omega (arith, c.in_ok-grow.ensures.few);
+}
 
-pub returns : goal.returns
-unfolding grown_of sized_of terms_of
-returns c = (
-  multiply_end base _ _ _ _ _ _ c.loop-i.invariant.0 c.loop-i-test.false
-      ∙ ap (λ k. gather_k base (products_k (term_product_k base c.args.t) (take k c.args.s.terms)) (gathered c.args.coefs.now c.args.monos.now c.args.n)) c.count-m.ensures,
-  omega (arith, c.count-m.ensures, c.loop-i.invariant.1, c.loop-i.invariant.0.within),
-)
+pub returns-clause-ok : goal.returns-clause-ok
+returns-clause-ok g c =
+    sym (multiply_end base (term_product_k base c.args.t) c.args.us.now c.loop-u.ts.items c.loop-u.u-index c.loop-u-test.false) ∙ c.loop-u.invariant.rest

@@ -1,12 +1,13 @@
 -- `sum::place` is the first place whose symbols do not precede the given ones. Assumes nothing.
-use Rattle.sum.proofs.Insertion.{search_step, search_found, search_end}
+use Rattle.std.proofs.Common.{◌≡◌, ◌∙◌, ltb, true, false, rules}
+use borrow.Author.Tests.{tests}
+use Rattle.std.proofs.lemmas.Iterator.{IsFirst-from_position, YieldsList-from_slice}
+use Rattle.sum.proofs.Insertion.{place_found}
 use Rattle.sum.proofs.place.Goals as goal
 
-pub returns-then-monos-i : goal.returns-then-monos-i
-returns-then-monos-i c = search_found _ _ _ _ c.loop-i.invariant c.loop-i-test.true c.if-monos-i.true
-
-pub loop-i-preserved : goal.loop-i-preserved
-loop-i-preserved c = search_step _ _ _ _ c.loop-i.invariant c.loop-i-test.true c.if-monos-i.false
-
-pub returns : goal.returns
-returns c = search_end _ _ _ _ c.loop-i.invariant c.loop-i-test.false
+pub returns-clause-at : goal.returns-clause-at
+returns-clause-at c =
+    c.unwrap_or.ensures
+    ∙ place_found c.args.mono c.args.ts.now c.position.result
+    (IsFirst-from_position _ _ _ (λ t. ltb t.mono c.args.mono ≡ false) (λ t. ltb t.mono c.args.mono ≡ true) c.position.ensures.ran (YieldsList-from_slice c.args.ts.now c.iter.ensures.rest)
+    (λ x q k. search (rules, tests)) (λ x q k. search (rules, tests)))

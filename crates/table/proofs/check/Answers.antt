@@ -1,26 +1,33 @@
 -- `table::check` is the model's finding of a table image. Assumes nothing.
-use mathlib.Core.Path.{refl}
+use Rattle.std.proofs.Common.{rules, refl}
+use Rattle.std.proofs.lemmas.Result.{err_from_is_err_and}
 use Rattle.fault.proofs.Rules.{first_of_three, second_of_three, third_of_three}
-use Rattle.table.proofs.Records.{header_refused, cut_out, areas}
+use Rattle.model.specs.Table.{state_fault, action_fault, edge_fault}
+use Rattle.table.proofs.Records.{header_refused, areas}
 use Rattle.table.proofs.check.Goals as goal
 
 pub returns-then-not-header_fits : goal.returns-then-not-header_fits
 returns-then-not-header_fits c = header_refused _ c.header_fits.ensures c.if-not-header_fits.true
 
-pub check_area-requires : goal.check_area-requires
-check_area-requires c = cut_out _ c.header_fits.ensures c.if-not-header_fits.false c.code_area-code.ensures c.word_at.ensures c.word_at-2.ensures
+pub returns-in_err-first_fault : goal.returns-in_err-first_fault
+returns-in_err-first_fault c =
+    let p = err_from_is_err_and c.from_residual.result c.from_residual.ensures.1 in
+    let all = areas _ c.header_fits.ensures c.if-not-header_fits.false c.word_at.ensures refl refl in
+    let e = c.first_fault.ensures (state_fault c.args.image.now) (λ i r h q. search rules) in
+    rw (p.1, p.2) (first_of_three _ _ _ all e c.in_err-first_fault.was)
 
-pub check_area-requires-in-Sound : goal.check_area-requires-in-Sound
-check_area-requires-in-Sound c = cut_out _ c.header_fits.ensures c.if-not-header_fits.false c.code_area-code.ensures c.word_at.ensures c.word_at-2.ensures
+pub returns-in_err-first_fault-2 : goal.returns-in_err-first_fault-2
+returns-in_err-first_fault-2 c =
+    let p = err_from_is_err_and c.from_residual-in_err-first_fault-2.result c.from_residual-in_err-first_fault-2.ensures.1 in
+    let all = areas _ c.header_fits.ensures c.if-not-header_fits.false c.word_at.ensures c.word_at-2.ensures refl in
+    let e = c.first_fault.ensures (state_fault c.args.image.now) (λ i r h q. search rules) in
+    let f = c.first_fault-2.ensures (action_fault c.args.image.now) (λ i r h q. search rules) in
+    rw (p.1, p.2) (second_of_three _ _ _ all e c.in_ok-first_fault.was f c.in_err-first_fault-2.was)
 
-pub check_area-requires-in-Sound-check_area : goal.check_area-requires-in-Sound-check_area
-check_area-requires-in-Sound-check_area c = cut_out _ c.header_fits.ensures c.if-not-header_fits.false c.code_area-code.ensures c.word_at.ensures c.word_at-2.ensures
-
-pub returns-in-Broken : goal.returns-in-Broken
-returns-in-Broken c = first_of_three _ _ _ (areas _ c.header_fits.ensures c.if-not-header_fits.false c.word_at-3.ensures refl refl) c.check_area.ensures c.in-Broken.is
-
-pub returns-in-Broken-check_area : goal.returns-in-Broken-check_area
-returns-in-Broken-check_area c = second_of_three _ _ _ (areas _ c.header_fits.ensures c.if-not-header_fits.false c.word_at-3.ensures c.word_at-in-Sound.ensures refl) c.check_area.ensures c.in-Sound.is c.check_area-in-Sound.ensures c.in-Broken-check_area.is
-
-pub returns-in-Sound-check_area : goal.returns-in-Sound-check_area
-returns-in-Sound-check_area c = third_of_three _ _ _ (areas _ c.header_fits.ensures c.if-not-header_fits.false c.word_at-3.ensures c.word_at-in-Sound.ensures c.word_at-in-Sound-check_area.ensures) c.check_area.ensures c.in-Sound.is c.check_area-in-Sound.ensures c.in-Sound-check_area.is c.check_area-in-Sound-check_area.ensures
+pub returns : goal.returns
+returns c =
+    let all = areas _ c.header_fits.ensures c.if-not-header_fits.false c.word_at.ensures c.word_at-2.ensures c.word_at-3.ensures in
+    let e = c.first_fault.ensures (state_fault c.args.image.now) (λ i r h q. search rules) in
+    let f = c.first_fault-2.ensures (action_fault c.args.image.now) (λ i r h q. search rules) in
+    let g = c.first_fault-3.ensures (edge_fault c.args.image.now) (λ i r h q. search rules) in
+    third_of_three _ _ _ all e c.in_ok-first_fault.was f c.in_ok-first_fault-2.was g

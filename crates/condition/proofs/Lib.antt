@@ -1,0 +1,4 @@
+pub mod Settling
+pub mod Members
+pub mod Paper
+pub mod Unique
