@@ -29,12 +29,16 @@ fn judge_words(rt: &HostRuntime, first: &[u32], second: &[u32], list: &[u32]) ->
     shell::print(rt, &text[..n])
 }
 
-// Reads the file that an argument names, takes its words into the front of a buffer, and gives how many are lent.
-fn read_image(rt: &HostRuntime, i: usize, words: &mut [u32]) -> Result<usize, Said>
+// Reads the file that an argument names by a buffer for its bytes, takes its words into the front of a buffer, and gives how many are lent.
+fn read_image(
+    rt: &HostRuntime,
+    i: usize,
+    bytes: &mut [u8],
+    words: &mut [u32],
+) -> Result<usize, Said>
     ensures { IfOk result (λ n. n ≤ length words.new) }
 {
-    let mut bytes = shell::zeros::<65536>();
-    let n = shell::read_argument(rt, i, &mut bytes)?;
+    let n = shell::read_argument(rt, i, bytes)?;
     Ok(files::image(&bytes[..n], words))
 }
 
@@ -42,12 +46,13 @@ fn read_image(rt: &HostRuntime, i: usize, words: &mut [u32]) -> Result<usize, Sa
 fn judge_files(rt: &HostRuntime, i: usize) -> Result<(), Said>
     requires { i + 2 < 2 ^ 64 }
 {
+    let mut bytes = shell::zeros::<65536>();
     let mut first = [0u32; 4298];
     let mut second = [0u32; 4298];
     let mut list = [0u32; 5512];
-    let a = read_image(rt, i, &mut first)?;
-    let b = read_image(rt, i + 1, &mut second)?;
-    let c = read_image(rt, i + 2, &mut list)?;
+    let a = read_image(rt, i, &mut bytes, &mut first)?;
+    let b = read_image(rt, i + 1, &mut bytes, &mut second)?;
+    let c = read_image(rt, i + 2, &mut bytes, &mut list)?;
     judge_words(rt, &first[..a], &second[..b], &list[..c])
 }
 

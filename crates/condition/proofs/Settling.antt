@@ -1,7 +1,7 @@
 -- What the test of one condition comes to, from what was read and tested. Assumes nothing.
 use Prim.Native.Nat.{ℕ, ◌≤◌, ◌<◌, ◌^◌}
 use mathlib.Core.Path.{◌≡◌, refl, sym, ◌∙◌, ap}
-use mathlib.Core.Bool.{Bool, true, false, cond, beq}
+use mathlib.Core.Bool.{Bool, true, false, cond}
 use mathlib.Core.List.{List, [], ◌∷◌}
 use mathlib.Core.Option as Math
 use native.Mathlib.Omega.{arith}
@@ -9,7 +9,6 @@ use lib.ListN.{length, get_or}
 use borrow.Author.Tests.{eq-eqb}
 use denote.Enum.Bare.{sameb}
 use Rattle.std.specs.Prelude.{Option, Some, None}
-use Rattle.std.specs.Option.{option_eq}
 use Rattle.model.specs.Word.{base, wrap, holds, equal, kind_number}
 use Rattle.model.specs.Judgement.{same_kind, settled_by, settled_as}
 use Rattle.word.specs.declared.Kind.{Kind}
@@ -19,7 +18,9 @@ use Rattle.word.specs.Kinds.{kind_of}
 use Rattle.sum.specs.declared.Term.{Term}
 use Rattle.sum.specs.Packed.{same_k, terms_of, zero_term}
 use Rattle.condition.specs.declared.Condition.{Condition}
-use Rattle.condition.specs.Conditions.{constant_in, word_of, settled_in, settled_of}
+use Rattle.condition.specs.declared.Settled.{Settled}
+use Rattle.condition.specs.declared.Settled.TheVariants.{Open, Constant}
+use Rattle.condition.specs.Conditions.{constant_in, word_of, settled_in, settled_of, constant_on}
 
 -- The constant that one term with no symbols is.
 pub constant_one : (l : List Term) → 1 ≤ length l → length l < 2 → (get_or l 0 zero_term).mono ≡ 0 → (get_or l 0 zero_term).coef < 2 ^ 32
@@ -51,9 +52,9 @@ word_is Math.none e h = absurd (let z : ◌≡◌ {A = ℕ} 0 1 = cc in omega ar
 word_is (Math.some a) {x = x} e h = let d : a ≡ x = cc in ap Math.some d
 
 module _ (c : Condition) {v w : Option ℕ} (first : v ≡ word_of (constant_in (terms_of c.left))) (second : w ≡ word_of (constant_in (terms_of c.right))) where
-  pub settled_both : {x y : ℕ} {b : Bool} → v ≡ Some x → w ≡ Some y → b ≡ holds base (kind_of c.kind) x y → Some b ≡ settled_of (settled_in c)
+  pub settled_both : {x y : ℕ} {b : Bool} → v ≡ Some x → w ≡ Some y → b ≡ holds base (kind_of c.kind) x y → Constant b ≡ settled_of (settled_in c)
   unfolding settled_in settled_by settled_of
-  settled_both h k e = ap Some e ∙ rw (word_is _ first h, word_is _ second k) refl
+  settled_both h k e = ap Constant e ∙ rw (word_is _ first h, word_is _ second k) refl
 
   -- One is no constant.
 
@@ -66,20 +67,20 @@ module _ (c : Condition) {v w : Option ℕ} (first : v ≡ word_of (constant_in 
   alike_right h k = rw (word_is _ first h, no_word _ second k) refl
 
 module _ (c : Condition) {s : Bool} (alike : settled_in c ≡ cond (same_k (terms_of c.left) (terms_of c.right)) (Math.some (same_kind (kind_of c.kind) equal)) Math.none) (same : s ≡ same_k (terms_of c.left) (terms_of c.right)) where
-  pub alike_same : {b : Bool} → s ≡ true → b ≡ sameb Bare.the_type c.kind Equal → Some b ≡ settled_of (settled_in c)
+  pub alike_same : {b : Bool} → s ≡ true → b ≡ sameb Bare.the_type c.kind Equal → Constant b ≡ settled_of (settled_in c)
   unfolding settled_of
   alike_same h e =
       let t : same_k (terms_of c.left) (terms_of c.right) ≡ true = sym same ∙ h in
-      ap Some (e ∙ equal_kind c.kind) ∙ rw (alike, t) refl
+      ap Constant (e ∙ equal_kind c.kind) ∙ rw (alike, t) refl
 
-  pub alike_open : s ≡ false → None ≡ settled_of (settled_in c)
+  pub alike_open : s ≡ false → Open ≡ settled_of (settled_in c)
   unfolding settled_of
   alike_open h =
       let t : same_k (terms_of c.left) (terms_of c.right) ≡ false = sym same ∙ h in
       rw (alike, t) refl
 
--- What it comes to is a side, or is not.
-pub as_side : (o : Math.Option Bool) (b : Bool) {r : Option Bool} {x : Bool} → r ≡ settled_of o → x ≡ option_eq beq r (Some b) → x ≡ settled_as b o
-unfolding settled_of settled_as
-as_side Math.none b e h = h ∙ ap (λ r. option_eq beq r (Some b)) e
-as_side (Math.some a) b e h = h ∙ ap (λ r. option_eq beq r (Some b)) e
+-- What it comes to is constant on a side, or is not.
+pub as_side : (o : Math.Option Bool) (b : Bool) {r : Settled} {x : Bool} → r ≡ settled_of o → x ≡ constant_on b r → x ≡ settled_as b o
+unfolding settled_of settled_as constant_on
+as_side Math.none b e h = h ∙ ap (constant_on b) e
+as_side (Math.some a) b e h = h ∙ ap (constant_on b) e

@@ -1,18 +1,25 @@
 -- Conditions as the code holds them, and the rules on them (01, rules 15 and 16; `model`, Judgement: settled, contradicts, assured).
 -- 01: "A condition is a kind, two normal sums as written, and the side taken". They are at most 32.
 -- proofs/Paper says that the rules are the paper's. Assumes nothing.
-use Rattle.std.specs.Prelude.{ℕ, Bool, cond, not, ◌&&◌, ◌||◌, List, [], ◌∷◌, ◌++◌, eqb, ltb, length, Option, Some, None}
+use Rattle.std.specs.Prelude.{ℕ, Bool, false, cond, not, ◌&&◌, ◌||◌, List, [], ◌∷◌, ◌++◌, eqb, ltb, length, Option, Some, None}
 use Rattle.std.specs.Bool.{beq}
 use Rattle.std.proofs.Math.Option as Math
 use Rattle.model.specs.Word.{base, wrap}
 use Rattle.model.specs.Judgement.{same_kind, settled_by, settled_as, any, all}
 use Rattle.word.specs.declared.Kind.{Kind}
+use Rattle.word.specs.declared.Kind.TheVariants.{Equal}
 use Rattle.word.specs.Kinds.{kind_of}
 use Rattle.sum.specs.declared.Term.{Term}
 use Rattle.sum.specs.declared.Sum.{Sum}
-use Rattle.sum.specs.Packed.{same_k, terms_of}
+use Rattle.sum.specs.Packed.{same_k, terms_of, as_sum}
 use Rattle.condition.specs.declared.Condition.{Condition}
 use Rattle.condition.specs.declared.Conditions.{Conditions}
+use Rattle.condition.specs.declared.Settled.{Settled}
+use Rattle.condition.specs.declared.Settled.TheVariants.{Open, Constant}
+
+-- A condition that says nothing: 0 equal to 0, not taken.
+unfoldable pub no_condition : Condition
+no_condition = record { kind = Equal; left = as_sum []; right = as_sum []; taken = false }
 
 -- No conditions.
 unfoldable pub no_conditions : Conditions
@@ -53,9 +60,14 @@ settled_in c =
     (same_k (terms_of c.left) (terms_of c.right))
 
 -- That, as the code answers it.
-unfoldable pub settled_of : Math.Option Bool → Option Bool
-settled_of Math.none = None
-settled_of (Math.some b) = Some b
+unfoldable pub settled_of : Math.Option Bool → Settled
+settled_of Math.none = Open
+settled_of (Math.some b) = Constant b
+
+-- Whether what a test comes to is constant on a side.
+unfoldable pub constant_on : Bool → Settled → Bool
+constant_on b Open = false
+constant_on b (Constant a) = beq a b
 
 -- The same kind and sums.
 unfoldable pub same_test_in : Condition → Condition → Bool

@@ -3,9 +3,9 @@
 // specs/Conditions. Assumes nothing.
 #![tactic(auto)]
 
-ghost use Rattle.std.specs.Prelude.{◌≡◌};
+ghost use Rattle.std.specs.Prelude.{◌≡◌, ◌≤◌, length};
 ghost use Rattle.sum.specs.Packed.{terms_of};
-ghost use Rattle.condition.specs.Conditions.{no_conditions, pushed, conditions_of, constant_in, word_of, settled_in, settled_of, like_in, met_in, contradicts_in, assured_in};
+ghost use Rattle.condition.specs.Conditions.{no_condition, no_conditions, pushed, conditions_of, constant_in, word_of, settled_in, settled_of, constant_on, like_in, met_in, contradicts_in, assured_in};
 
 use arrayvec::ArrayVec;
 use sum::Sum;
@@ -22,6 +22,9 @@ pub struct Condition {
 
 // A condition that says nothing: 0 equal to 0, not taken.
 impl Default for Condition {
+    ghost is_default = { λ c. c ≡ no_condition };
+
+    #[tactic(auto, unfolding(crate::specs::Conditions::no_condition))]
     fn default() -> Condition {
         Condition {
             kind: Kind::Equal,
@@ -32,10 +35,34 @@ impl Default for Condition {
     }
 }
 
+// Stays: document 01 names an enum of constant and open.
+// What a condition's test comes to whatever the words are: it is open, or constant.
+#[derive(Clone, Copy, PartialEq, Eq)]
+pub enum Settled {
+    Open,
+    Constant(bool),
+}
+
+impl Settled {
+    // Whether the test is constant on a side.
+    #[tactic(auto, unfolding(crate::specs::Conditions::constant_on))]
+    fn is_constant_on(self, side: bool) -> bool
+        ensures { result ≡ constant_on side self }
+    {
+        match self {
+            Settled::Open => false,
+            Settled::Constant(found) => found == side,
+        }
+    }
+}
+
+// The most conditions of a side.
+pub const CONDITIONS: usize = 32;
+
 // At most 32 conditions.
-#[derive(Drop)]
+#[derive(Clone, Drop)]
 pub struct Conditions {
-    items: ArrayVec<Condition, 32>,
+    items: ArrayVec<Condition, CONDITIONS>,
 }
 
 // The constant that a sum is, as a word: no terms are the constant 0.
@@ -51,14 +78,14 @@ fn constant(s: &Sum) -> Option<u32>
 }
 
 impl Condition {
-    // What the test comes to whatever the words are; nothing where it is open.
-    pub fn settled(&self) -> Option<bool>
+    // What the test comes to whatever the words are.
+    pub fn settled(&self) -> Settled
         ensures { result ≡ settled_of (settled_in self.now) }
     {
         match (constant(&self.left), constant(&self.right)) {
-            (Some(a), Some(b)) => Some(word::holds(self.kind, a, b)),
-            _ if self.left.same(&self.right) => Some(self.kind == Kind::Equal),
-            _ => None,
+            (Some(a), Some(b)) => Settled::Constant(word::holds(self.kind, a, b)),
+            _ if self.left.same(&self.right) => Settled::Constant(self.kind == Kind::Equal),
+            _ => Settled::Open,
         }
     }
 
@@ -77,7 +104,7 @@ impl Condition {
     fn is_met(&self, taken: bool, among: &Conditions) -> bool
         ensures { result ≡ met_in (conditions_of among.now) self.now taken }
     {
-        if self.settled() == Some(taken) {
+        if self.settled().is_constant_on(taken) {
             return true;
         }
         among
@@ -115,6 +142,14 @@ impl Conditions {
         if !self.items.is_full() {
             self.items.push(c);
         }
+    }
+
+    // The conditions, in order.
+    pub fn as_slice(&self) -> &[Condition]
+        ensures value { result.now ≡ conditions_of self.now }
+        ensures few { length result.now ≤ 32 }
+    {
+        self.items.as_slice()
     }
 
     // Whether the test of some condition is met on the side that is not taken: a false constant condition, or two opposites.

@@ -1,11 +1,12 @@
 -- What storing a sum does to the sums of an environment: the variable's is replaced. Assumes nothing.
-use Prim.Native.Nat.{ℕ, zero, suc, ◌≤◌, ◌<◌, min}
+use Prim.Native.Nat.{ℕ, zero, suc, ◌+◌, ◌≤◌, ◌<◌, min}
 use mathlib.Core.Path.{◌≡◌, refl, ap, ◌∙◌}
 use mathlib.Core.List.{List, [], ◌∷◌, map}
 use native.Mathlib.Omega.{arith}
-use lib.ListN.{length, get_or, set, replicate, length-map, length-set, length-take}
+use lib.ListN.{length, get_or, set, replicate, length-map, length-set, length-take, get_or-eq_default}
 use lib.Seq.{get_or-set_same, get_or-set_other}
-use Rattle.std.proofs.lemmas.List.{map-set}
+use Rattle.std.proofs.lemmas.List.{map-set, set_past}
+use Rattle.model.specs.Answer.{up_to}
 use Rattle.key.specs.Key.{symbol_of}
 use Rattle.sum.specs.declared.Sum.{Sum}
 use Rattle.sum.specs.Packed.{symbol_k, terms_of, as_sum}
@@ -13,7 +14,30 @@ use Rattle.sum.proofs.Held.{terms_as}
 use Rattle.env.specs.declared.Env.{Env}
 use Rattle.env.specs.Env.{sums_of, with_variable, symbols_of}
 
+-- The numbers from i on, by their places.
+pub up_to_at : (i n j z : ℕ) → j < n → get_or (up_to i n) j z ≡ i + j
+unfolding up_to
+up_to_at i zero j z h = absurd (omega arith)
+up_to_at i (suc n) zero z h = omega arith
+up_to_at i (suc n) (suc j) z h =
+    let e : suc i + j ≡ i + suc j = omega arith in
+    up_to_at (suc i) n j z (omega arith) ∙ e
+
+-- There is a sum for each variable.
+pub length_sums : (e : Env) → length (sums_of e) ≡ length e.sums
+unfolding sums_of
+length_sums e = length-map e.sums terms_of
+
+-- A variable past the last has the empty sum.
+pub sums_past : (e : Env) (v : ℕ) → length e.sums ≤ v → get_or (sums_of e) v [] ≡ []
+sums_past e v h = get_or-eq_default (sums_of e) [] {n = v} (omega (arith, length_sums e))
+
 module _ (e : Env) (v : ℕ) (s : Sum) where
+  -- Nothing changes for a variable past the last.
+  pub with_past : length e.sums ≤ v → with_variable e v s ≡ e
+  unfolding with_variable
+  with_past h = λ i. record { sums = set_past e.sums v s h i }
+
   -- Storing a variable's sum replaces it among the sums.
   pub sums_with : sums_of (with_variable e v s) ≡ set (sums_of e) v (terms_of s)
   unfolding sums_of with_variable

@@ -9,7 +9,7 @@ use Rattle.env.proofs.Env.get.Reads as get
 
 -- A variable's sum is replaced in one way.
 pub set_unique : (κs : _) (a : _) (r r' : _) (s s' : _) → set.Post κs a r s → set.Post κs a r' s' → s.0.now ≡ s'.0.now
-set_unique κs a r r' s s' p q = one_answer p q
+set_unique κs a r r' s s' p q = one_answer p.0 q.0
 
 -- A list of symbols makes one environment.
 pub symbols_unique : (κs : _) (a : _) (r r' : _) (s s' : _) → symbols.Post κs a r s → symbols.Post κs a r' s' → r ≡ r'
@@ -17,4 +17,4 @@ symbols_unique κs a r r' s s' p q = one_answer p q
 
 -- A variable has one sum.
 pub get_unique : (κs : _) (a : _) (r r' : _) (s s' : _) → get.Post κs a r s → get.Post κs a r' s' → r ≡ r'
-get_unique κs a r r' s s' p q = one_answer p q
+get_unique κs a r r' s s' p q = one_answer p.0 q.0

@@ -2,7 +2,7 @@
 // contract is an equation with the definitions of specs/Env; a variable of 16 and more has the empty sum. Assumes nothing.
 #![tactic(auto)]
 
-ghost use Rattle.std.specs.Prelude.{◌≡◌, [], get_or};
+ghost use Rattle.std.specs.Prelude.{◌≡◌, ◌≤◌, ◌<◌, [], map, get_or, set};
 ghost use Rattle.sum.specs.Packed.{terms_of, as_sum};
 ghost use Rattle.env.specs.Env.{sums_of, with_variable, symbols_of};
 
@@ -28,19 +28,33 @@ fn read(s: &Sum) -> Sum
     Sum { n, terms }
 }
 
+// One of sixteen sums replaced.
+fn put(sums: &mut [Sum; 16], v: usize, s: Sum)
+    requires { v < 16 }
+    ensures after { sums.new ≡ set sums.old v s }
+    ensures stored { get_or (map terms_of sums.new) v [] ≡ terms_of s }
+{
+    sums[v] = s;
+}
+
 impl Env {
     // Each variable is its symbol of the list.
     pub fn symbols(list: &[u32; 16]) -> Env
         ensures { result ≡ symbols_of list.now }
     {
-        let sums = list.map(|x| Sum::symbol(key::symbol(x)));
+        // Stays: `list.map(..)` makes the sixteen sums and copies them three times.
+        let mut sums = [Sum::empty(); 16];
+        for v in 0..16 {
+            sums[v] = Sum::symbol(key::symbol(list[v]));
+        }
         Env { sums }
     }
 
     // The sum of a variable.
     #[tactic(auto, unfolding(crate::specs::Env::sums_of))]
     pub fn get(&self, v: usize) -> Sum
-        ensures { result ≡ as_sum (get_or (sums_of self.now) v []) }
+        ensures value { result ≡ as_sum (get_or (sums_of self.now) v []) }
+        ensures past { 16 ≤ v → result ≡ as_sum [] }
     {
         match self.sums.get(v) {
             Some(s) => read(s),
@@ -51,10 +65,12 @@ impl Env {
     // The sum of a variable replaced; nothing changes for a variable of 16 and more.
     #[tactic(auto, unfolding(crate::specs::Env::with_variable))]
     pub fn set(&mut self, v: usize, s: Sum)
-        ensures { self.new ≡ with_variable self.old v s }
+        ensures after { self.new ≡ with_variable self.old v s }
+        ensures stored { v < 16 → get_or (sums_of self.new) v [] ≡ terms_of s }
+        ensures past { 16 ≤ v → self.new ≡ self.old }
     {
         if v < self.sums.len() {
-            self.sums[v] = s;
+            put(&mut self.sums, v, s);
         }
     }
 }

@@ -1,7 +1,7 @@
 -- Laws of the words of a list of bytes: how many there are, which bytes each is made of, what one more store in front of a buffer does, and
 -- what is lent behind them. Assumes nothing.
-use Prim.Native.Nat.{ℕ, zero, suc, ◌+◌, ◌*◌, ◌/◌, ◌≤◌, ◌<◌}
-use mathlib.Core.Path.{◌≡◌, refl, ◌∙◌, ap}
+use Prim.Native.Nat.{ℕ, zero, suc, ◌+◌, ◌*◌, ◌/◌, ◌%◌, ◌≤◌, ◌<◌}
+use mathlib.Core.Path.{◌≡◌, refl, sym, ◌∙◌, ap}
 use mathlib.Core.List.{List, [], ◌∷◌, ◌++◌}
 use native.Mathlib.Omega.{arith}
 use native.Mathlib.Numerals.{add-one}
@@ -64,20 +64,29 @@ lent_within other room bytes h = grind (arith, nat_tests)
 abbrev pub Lent : ℕ → List ℕ → List ℕ → ℕ → List ℕ → Type 0
 Lent other bytes out r out' = (r ≡ lent_of other (taken_of bytes (length out))) × (out' ≡ filled_of bytes out) × Front r out'
 
--- The words that were taken, or the other number, are lent.
+-- Words are taken where the bytes are whole words, and no more than there is room for.
+pub taken_whole : (l : List ℕ) (room n : ℕ) → taken_of l room ≡ Ok n → (length l % 4 ≡ 0) × (n ≡ length l / 4) × (n ≤ room)
+unfolding taken_of by_fit
+taken_whole l room n e = (grind (arith, nat_tests, e), grind (arith, nat_tests, e), grind (arith, nat_tests, e))
+
+-- The words that were taken, or the other number, are lent, where the buffer has so many.
 
 unwrapped : (r : Result ℕ Unfit) (other : ℕ) → result_unwrap_or r other ≡ lent_of other r
 unfolding lent_of
 unwrapped (Ok n) other = refl
 unwrapped (Err e) other = refl
 
-pub lent : (other : ℕ) (bytes out : List ℕ) {n : ℕ} {out' : List ℕ} {r : Result ℕ Unfit}
-    → n ≡ result_unwrap_or r other
-    → r ≡ taken_of bytes (length out)
-    → out' ≡ filled_of bytes out
-    → other ≤ length out
-    → Lent other bytes out n out'
-lent other bytes out {n} {out'} {r} e f g h =
-    let k : length out' ≡ length out = ap length g ∙ filled_length bytes out in
-    let p : n ≡ lent_of other (taken_of bytes (length out)) = e ∙ unwrapped r other ∙ ap (lent_of other) f in
-    (p, g, front n out' (omega (arith, p, lent_within other (length out) bytes h)))
+module _ (other : ℕ) (bytes out : List ℕ) {n : ℕ} {out' : List ℕ} {r : Result ℕ Unfit} (taken : r ≡ taken_of bytes (length out)) (filled : out' ≡ filled_of bytes out) where
+  pub lent : n ≡ result_unwrap_or r other → n ≤ length out → Lent other bytes out n out'
+  lent e h =
+      let k : length out' ≡ length out = ap length filled ∙ filled_length bytes out in
+      (e ∙ unwrapped r other ∙ ap (lent_of other) taken, filled, front n out' (omega arith))
+
+  -- So they are where there is room for the other number, and wherever words were taken.
+  pub lent_other : n ≡ result_unwrap_or r other → other ≤ length out → Lent other bytes out n out'
+  lent_other e h =
+      let p : n ≡ lent_of other (taken_of bytes (length out)) = e ∙ unwrapped r other ∙ ap (lent_of other) taken in
+      lent e (omega (arith, p, lent_within other (length out) bytes h))
+
+  pub lent_whole : r ≡ Ok n → Lent other bytes out n out'
+  lent_whole e = lent (sym (ap (λ r. result_unwrap_or r other) e)) (taken_whole bytes (length out) n (sym taken ∙ e)).2

@@ -1,5 +1,5 @@
 -- Laws of decimal texts: which texts write a word, and what std's `parse` gives of one with no sign. Assumes nothing.
-use Prim.Native.Nat.{ℕ, ◌^◌, ◌≤◌, ◌<◌}
+use Prim.Native.Nat.{ℕ, ◌+◌, ◌-◌, ◌*◌, ◌^◌, ◌≤◌, ◌<◌}
 use mathlib.Core.Path.{◌≡◌, refl}
 use mathlib.Core.Bool.{Bool, true, false}
 use mathlib.Core.List.{List, [], ◌∷◌}
@@ -24,6 +24,14 @@ use Rattle.files.specs.Files.{digits, value_on, value_of, number_of}
 own : IsNumeralModel (λ l. digits l ≡ true) (value_on 0)
 unfolding digits value_on
 own = numerals_by_fold _ (search rules) value_on (search rules)
+
+-- More digits write no smaller number.
+pub value_grows : (v : ℕ) (l : List ℕ) → v ≤ value_on v l
+unfolding value_on
+value_grows v [] = omega arith
+value_grows v (b ∷ l) =
+    let h : v * 10 + (b - 48) ≤ value_on (v * 10 + (b - 48)) l = value_grows (v * 10 + (b - 48)) l in
+    omega arith
 
 -- A text writes a word where it has digits alone, at least one, and they write at most 4294967295.
 abbrev pub Writes : List ℕ → Type 0

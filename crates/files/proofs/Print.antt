@@ -1,6 +1,6 @@
 -- Laws of numbers as they are printed: std writes the same digits, and a word and its signed number have few of them. And laws of a text that
 -- is written in a buffer, and of one behind it. Assumes nothing.
-use Prim.Native.Nat.{ℕ, suc, ◌+◌, ◌-◌, ◌^◌, ◌≤◌, ◌<◌}
+use Prim.Native.Nat.{ℕ, zero, suc, ◌+◌, ◌-◌, ◌/◌, ◌%◌, ◌^◌, ◌≤◌, ◌<◌}
 use mathlib.Core.Path.{◌≡◌, refl, sym, ◌∙◌, ap}
 use mathlib.Core.Bool.{Bool, true, false}
 use mathlib.Core.List.{List, [], ◌∷◌, ◌++◌}
@@ -9,11 +9,44 @@ use lib.Dec.{ltb}
 use lib.ListN.{length, set, length-append}
 use lib.Seq.{sets}
 use borrow.Author.Rules.{rules}
-use borrow.Author.Tests.{ltb-false}
+use borrow.Author.Tests.{ltb-false, lt-ltb, le-ltb}
 use Rattle.std.specs.Fmt.{decimal, signed_decimal}
 use Rattle.std.proofs.lemmas.Fmt.{AppendsLastDigit, decimal_from_appends, length-decimal-le, length-decimal-le_succ}
 use Rattle.model.specs.Word.{base, signed}
 use Rattle.files.specs.Files.{decimal_in, decimal_of, printed_of, placed}
+
+-- Any fuel above the number gives the same digits.
+
+fuel_by : (f g n : ℕ) (b : Bool) → ltb n 10 ≡ b → (10 ≤ n → decimal_in f (n / 10) ≡ decimal_in g (n / 10)) → decimal_in (suc f) n ≡ decimal_in (suc g) n
+unfolding decimal_in
+fuel_by f g n true e h = rw e refl
+fuel_by f g n false e h =
+    let k : decimal_in f (n / 10) ≡ decimal_in g (n / 10) = h (ltb-false n 10 e) in
+    rw (e, k) refl
+
+fuel : (f g n : ℕ) → n < f → n < g → decimal_in f n ≡ decimal_in g n
+fuel zero g n h k = absurd (omega arith)
+fuel (suc f) zero n h k = absurd (omega arith)
+fuel (suc f) (suc g) n h k = fuel_by f g n (ltb n 10) refl (λ (m : 10 ≤ n). fuel f g (n / 10) (omega arith) (omega arith))
+
+-- A number of one digit.
+pub decimal_last : (n : ℕ) → n < 10 → decimal_of n ≡ (48 + n) ∷ []
+unfolding decimal_of decimal_in
+decimal_last n h = rw (lt-ltb n 10 h) refl
+
+-- A number of more digits: those of its tenth part, and then its last one.
+pub decimal_more : (n : ℕ) → 10 ≤ n → decimal_of n ≡ decimal_of (n / 10) ++ ((48 + n % 10) ∷ [])
+unfolding decimal_of decimal_in
+decimal_more n h =
+    rw (le-ltb n 10 h) (ap (λ (l : List ℕ). l ++ ((48 + n % 10) ∷ [])) (fuel n (suc (n / 10)) (n / 10) (omega arith) (omega arith)))
+
+-- A number below ten has one digit.
+pub length_last : (n : ℕ) → n < 10 → length (decimal_of n) ≡ 1
+length_last n h = ap length (decimal_last n h)
+
+-- Any other number has one digit more than its tenth part.
+pub length_more : (n : ℕ) → 10 ≤ n → length (decimal_of n) ≡ length (decimal_of (n / 10)) + 1
+length_more n h = ap length (decimal_more n h) ∙ length-append (decimal_of (n / 10)) ((48 + n % 10) ∷ [])
 
 -- Each step of the digits appends the last one, as std's do.
 own : AppendsLastDigit decimal_in

@@ -6,8 +6,18 @@ use native.Mathlib.Nat.{mul-le-mul_right, pow-le-pow_right}
 use native.Mathlib.Omega.{arith}
 use lib.Dec.{ltb}
 use borrow.Author.Tests.{ltb-true, ltb-false, lt-ltb, le-ltb, le-leb, lt-leb, ne_eqb}
-use Rattle.key.specs.Key.{count_of, merge_in, merge_of, merged_of}
+use Rattle.key.specs.Key.{pack_on, pack, symbol_of, count_of, merge_in, merge_of, merged_of}
 use Rattle.std.specs.Prelude.{Some, None}
+
+-- A symbol below 127 has a digit, and no other has.
+
+pub symbol_some : (x : ℕ) → x < 127 → x + 1 ≡ symbol_of x
+unfolding symbol_of pack pack_on
+symbol_some x h = rw (lt-ltb x 127 h) (omega arith)
+
+pub symbol_none : (x : ℕ) → 127 ≤ x → 0 ≡ symbol_of x
+unfolding symbol_of
+symbol_none x h = rw (le-ltb x 127 h) refl
 
 -- How many digits a number of each size has.
 
@@ -32,6 +42,13 @@ unfolding count_of
 count_four a g h =
     rw
     (le-ltb a 1 (omega arith), le-ltb a 128 (omega arith), le-ltb a 16384 (omega arith), le-ltb a 2097152 g, lt-ltb a 268435456 h)
+    refl
+
+pub count_more : (a : ℕ) → 268435456 ≤ a → count_of a ≡ 5
+unfolding count_of
+count_more a g =
+    rw
+    (le-ltb a 1 (omega arith), le-ltb a 128 (omega arith), le-ltb a 16384 (omega arith), le-ltb a 2097152 (omega arith), le-ltb a 268435456 g)
     refl
 
 -- What holds of each count at each size holds of a number's count.

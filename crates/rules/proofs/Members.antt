@@ -30,6 +30,11 @@ all_range f i (suc n) =
     let s : i + 1 ≡ suc i = omega arith in
     ap (λ b. f i && b) (all_range f (i + 1) n ∙ ap (λ j. all f (up_to j n)) s)
 
+-- The four ports are the numbers below 4.
+pub all_ports : (f : ℕ → Bool) → all f (up_to 0 4) ≡ each_port f
+unfolding all up_to each_port
+all_ports f = ap (λ x. f 0 && (f 1 && (f 2 && x))) (and_true (f 3))
+
 -- Sums of two lists of one length.
 pub same_zip : (l m : List Sum) → length l ≡ length m → list_all (λ p. same_k (terms_of p.0) (terms_of p.1)) (zip l m) ≡ same same_k (map terms_of l) (map terms_of m)
 unfolding same

@@ -6,13 +6,14 @@ use mathlib.Core.Bool.{true, false, cond}
 use mathlib.Core.List.{List, [], ◌∷◌, map}
 use native.Mathlib.Omega.{arith}
 use lib.Dec.{leb}
-use lib.ListN.{length, get_or, set, drop, replicate, length-drop, get_or-map}
+use lib.ListN.{length, get_or, set, drop, replicate, length-drop, length-map, get_or-map}
 use borrow.Author.Tests.{le-leb, lt-leb}
 use Rattle.std.specs.Prelude.{Option, Some, None}
-use Rattle.model.specs.Answer.{Reason, end_stop, end_limit, end_input, end_room, sound}
+use Rattle.model.specs.Answer.{up_to, Reason, end_stop, end_limit, end_input, end_room, sound}
 use Rattle.model.specs.Word.{base}
-use Rattle.model.specs.Table.{Action, assign, read, write, states, table_of, table_fault}
+use Rattle.model.specs.Table.{Action, assign, read, write, states, table_of, table_fault, action_at}
 use Rattle.model.specs.Run.{is_stop, at, reads, couple_words, start, zeros, End, end_of, buffer_of}
+use Rattle.model.proofs.Basics.{length_up_to}
 use Rattle.model.proofs.CheckedTable.{checked_reset}
 use Rattle.fault.specs.Fault.{reason_as}
 use Rattle.fault.specs.declared.Reason as declared
@@ -21,7 +22,7 @@ use Rattle.table.specs.declared.EdgeRecord.{EdgeRecord}
 use Rattle.table.specs.declared.decoded.State.{State}
 use Rattle.table.specs.declared.decoded.State.TheVariants.{Stop, Step, Test}
 use Rattle.run.specs.declared.hand.Hand.{Hand}
-use Rattle.run.specs.Held.{Need, needing, Needed, per_port, Held, held, left_from, held_by, held_of, held_at, act_h, act_all_h, actions_of, writes_in, spend, spend_all, need_of, ending, taken, run_h}
+use Rattle.run.specs.Held.{Need, needing, Needed, per_port, Held, held, left_from, held_by, held_of, held_at, act_h, act_all_h, actions_of, writes_of, writes_in, spend, spend_all, need_of, ending, taken, run_h}
 use Rattle.run.specs.Sound.{Leaves}
 use Rattle.run.specs.Answers.{ended_at, end_as, ending_as}
 use Rattle.run.proofs.Holding.{ending_at, run_start, all_writes}
@@ -69,6 +70,23 @@ left_all before (a ∷ l) h n same = left_all before l (act_h base before a h) (
 pub need_writes : (left : List ℕ) (image : List ℕ) (e : EdgeRecord) → (need_of left (actions_of image e)).writes ≡ writes_in (actions_of image e)
 unfolding need_of
 need_writes left image e = all_writes _ (actions_of image e) ∙ (omega arith)
+
+-- Actions write at most a couple each.
+
+actions_most : (l : List Action) → writes_in l ≤ length l
+unfolding writes_in writes_of
+actions_most [] = omega arith
+actions_most (a ∷ l) = omega (arith, at_most a, actions_most l)
+  where
+    at_most : (a : Action) → writes_of a ≤ 1
+    at_most (assign v e) = omega arith
+    at_most (read p v) = omega arith
+    at_most (write p e) = omega arith
+
+pub need_few : (left : List ℕ) (image : List ℕ) (e : EdgeRecord) → e.count ≤ 16 → (need_of left (actions_of image e)).writes ≤ 16
+need_few left image e few =
+    let many : length (actions_of image e) ≡ e.count = length-map (up_to e.first e.count) (action_at image) ∙ length_up_to e.first e.count in
+    omega (arith, need_writes left image e, actions_most (actions_of image e))
 
 -- Where the run stands at the head of the loop.
 pub record Walking (image input : List ℕ) (limit : ℕ) (begun : List ℕ) (out : List ℕ) (h : Hand) (left : List ℕ) (s done : ℕ) : Type 0 where

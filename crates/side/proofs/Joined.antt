@@ -61,7 +61,7 @@ none_yet (suc (suc (suc (suc p)))) h = absurd (omega arith)
 -- A port with no sums.
 empty_port : StandsPort no_port []
 unfolding written_on AllKeyed
-empty_port = record { count = refl; same = refl; keyed = tt }
+empty_port = record { count = refl; few = omega arith; same = refl; keyed = tt }
 
 -- Each port is one with no sums.
 none_written : (p : ℕ) → get_or (no_port ∷ (no_port ∷ (no_port ∷ (no_port ∷ [])))) p no_port ≡ no_port

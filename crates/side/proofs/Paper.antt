@@ -45,6 +45,7 @@ use Rattle.side.proofs.Lists.{Alike, Both, both_sum, both_after}
 -- A port stands for the sums written to it.
 pub record StandsPort (w : Port) (l : List Sum) : Type 0 where
   pub count : length w.items ≡ length l
+  pub few : length w.items ≤ 16
   pub same : written_on w ≡ map (pack_sum pack) l
   pub keyed : AllKeyed l
 
@@ -199,12 +200,13 @@ keyed_more [] s h g = (g, tt)
 keyed_more (x ∷ l) s h g = (h.0, keyed_more l s h.1 g)
 
 -- A port with one sum more.
-port_more : (w : Port) (m : List Sum) (l : List Term) (s : Sum) → StandsPort w m → Packs l s → StandsPort (with_sum w (as_sum l)) (m ++ (s ∷ []))
+port_more : (w : Port) (m : List Sum) (l : List Term) (s : Sum) → StandsPort w m → length w.items < 16 → Packs l s → StandsPort (with_sum w (as_sum l)) (m ++ (s ∷ []))
 unfolding written_on with_sum
-port_more w m l s g p =
+port_more w m l s g room p =
     let e : length (m ++ (s ∷ [])) ≡ length m + 1 = length-append m (s ∷ []) in
     record {
       count = omega (arith, e, g.count, length-append w.items (as_sum l ∷ []));
+      few = omega (arith, length-append w.items (as_sum l ∷ []));
       same = map-append terms_of w.items (as_sum l ∷ [])
           ∙ (λ i. g.same i ++ ((terms_as l p.few ∙ p.same) i ∷ []))
           ∙ sym (map-append (pack_sum pack) m (s ∷ []));
@@ -212,7 +214,7 @@ port_more w m l s g p =
     }
 
 -- A write more: the port that is written to, and each other one.
-module _ (ws : List Port) (p : ℕ) (l : List Term) (s : Sum) (four : length ws ≡ 4) (h : p < 4) (packs : Packs l s) where
+module _ (ws : List Port) (p : ℕ) (l : List Term) (s : Sum) (four : length ws ≡ 4) (h : p < 4) (room : wrote_on ws p < 16) (packs : Packs l s) where
   ports_gave : (events : List (Event Sum)) (q : ℕ) → q < 4 → StandsPort (get_or ws p no_port) (writes p events) → StandsPort (get_or ws q no_port) (writes q events)
       → StandsPort (get_or (with_write ws p (as_sum l)) q no_port) (writes q (events ++ (gave p s ∷ [])))
   unfolding keep_if with_write wrote_on
@@ -224,7 +226,7 @@ module _ (ws : List Port) (p : ℕ) (l : List Term) (s : Sum) (four : length ws 
           let t : writes q (events ++ (gave p s ∷ [])) ≡ writes p events ++ (s ∷ []) =
           writes_gave q p s events ∙ rw z (ap (λ j. writes j events ++ (s ∷ [])) same) in
           rw (t, same, get_or-set_same ws p (with_sum (get_or ws p no_port) (as_sum l)) no_port (omega arith))
-          (port_more (get_or ws p no_port) (writes p events) l s e packs)
+          (port_more (get_or ws p no_port) (writes p events) l s e room packs)
       by false z =
           let t : writes q (events ++ (gave p s ∷ [])) ≡ writes q events =
           writes_gave q p s events ∙ rw z (append-nil (writes q events)) in
@@ -271,10 +273,10 @@ module _ (cs : List Model.Condition) (d : Side) (m : Model.Side) (k : Moved cs d
         conditions = k.conditions;
       }
 
-  given : (p : ℕ) (l : List Term) (s : Sum) → Packs l s → p < 4
+  given : (p : ℕ) (l : List Term) (s : Sum) → Packs l s → p < 4 → wrote_on d.writes p < 16
       → Moved cs (with_given d p (as_sum l)) (side m.state m.environment m.conditions (m.events ++ (gave p s ∷ [])))
   unfolding side with_given with_write
-  given p l s w i =
+  given p l s w i j =
       record {
         stands = record {
           state = k.stands.state;
@@ -283,7 +285,7 @@ module _ (cs : List Model.Condition) (d : Side) (m : Model.Side) (k : Moved cs d
           four_reads = k.stands.four_reads;
           four_writes = length-set d.writes p _ ∙ k.stands.four_writes;
           counts = λ q n. k.stands.counts q n ∙ sym (reads_gave q p s m.events);
-          ports = λ q n. ports_gave d.writes p l s k.stands.four_writes i w m.events q n (k.stands.ports p i) (k.stands.ports q n);
+          ports = λ q n. ports_gave d.writes p l s k.stands.four_writes i j w m.events q n (k.stands.ports p i) (k.stands.ports q n);
         };
         conditions = k.conditions;
       }
@@ -302,7 +304,7 @@ module _ (before : Env) (env : List Sum) (v : StandsEnv before env) where
       let same = room_same p (wrote_on d.writes p) (length (writes p m.events)) (λ i. (k.stands.ports p i).count) in
       both_sum Packs (Moved cs) (formed_on before e) (sum_of base env e) d _ _ (formed_packs before env e v)
       (λ l s w. both_if (Moved cs) (room_on p (wrote_on d.writes p)) (room_on p (length (writes p m.events))) _ _ _ same
-      (λ f. let r = room_facts p (wrote_on d.writes p) (same ∙ f) in given cs d m k p l s w r.0))
+      (λ f. let r = room_facts p (wrote_on d.writes p) (same ∙ f) in given cs d m k p l s w r.0 r.1))
 
   -- Actions in listed order.
   actions_stand : (l : List Action) (cs : List Model.Condition) (d : Side) (m : Model.Side) → Moved cs d m → Both (Moved cs) (actions_k before l d) (follow_actions base env l m)

@@ -15,6 +15,7 @@ ghost use Rattle.side.specs.Parts.{count_on, no_port, wrote_on, blank, start_as}
 ghost use Rattle.side.specs.Following.{followed_as, asked_in, actions_in, Parsed, Formed, AllParsed, edge_by, action_k, actions_k, follow_k};
 
 use arrayvec::ArrayVec;
+pub use condition::CONDITIONS;
 use condition::{Condition, Conditions};
 use env::Env;
 use sum::{Sum, TooLarge};
@@ -28,7 +29,7 @@ pub type Port = ArrayVec<Sum, 16>;
 
 // A side of a path: the state reached, the conditions on the way, the sums of the variables, how many words are read on each port, and the
 // sums written to each.
-#[derive(Drop)]
+#[derive(Clone, Drop)]
 pub struct Side {
     pub state: u32,
     pub conditions: Conditions,
@@ -198,19 +199,12 @@ impl Side {
         Ok(())
     }
 
-    // Choices followed from a state, with the variables as an environment says: bit k, from the lowest, is the choice at the k-th state.
-    pub fn follow(
-        &mut self,
-        image: &[u32],
-        state: u32,
-        steps: u32,
-        choices: u32,
-        env: &Env,
-    ) -> Result<(), TooLarge>
-        requires { (table_fault image.now ≡ sound) × ((state < states image.now) × (steps ≤ 32)) }
-        ensures { followed_as result self.new ≡ follow_k (table_of image.now) (choices_of steps choices) (start_as state env.now) }
+    // Choices followed from where the side stands, on which nothing is asked yet: bit k, from the lowest, is the choice at the k-th state.
+    #[inline(never)]
+    fn walk(&mut self, image: &[u32], steps: u32, choices: u32) -> Result<(), TooLarge>
+        requires { (table_fault image.now ≡ sound) × ((self.old.state < states image.now) × ((length (conditions_of self.old.conditions) ≡ 0) × (steps ≤ 32))) }
+        ensures { followed_as result self.new ≡ follow_k (table_of image.now) (choices_of steps choices) self.old }
     {
-        self.start(state, env);
         let code = table::code_area(image);
         let edges = table::word_at(image, 5);
         let actions = table::word_at(image, 7);
@@ -223,5 +217,24 @@ impl Side {
             self.state = edge.target;
         }
         Ok(())
+    }
+
+    // Choices followed from a state, with the variables as an environment says: bit k, from the lowest, is the choice at the k-th state.
+    // The environment is copied where the side was made, so that the copy needs no `memmove`, which a program in C that links the archive
+    // may not have.
+    #[inline(always)]
+    pub fn follow(
+        &mut self,
+        image: &[u32],
+        state: u32,
+        steps: u32,
+        choices: u32,
+        env: &Env,
+    ) -> Result<(), TooLarge>
+        requires { (table_fault image.now ≡ sound) × ((state < states image.now) × (steps ≤ 32)) }
+        ensures { followed_as result self.new ≡ follow_k (table_of image.now) (choices_of steps choices) (start_as state env.now) }
+    {
+        self.start(state, env);
+        self.walk(image, steps, choices)
     }
 }

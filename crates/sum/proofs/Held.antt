@@ -18,7 +18,12 @@ use Rattle.sum.specs.Packed.{constant_k, negate_term_k, negate_k, same_term_k, s
 use Rattle.sum.proofs.Lists.{drop_replicate}
 use Rattle.sum.proofs.Insertion.{keep_zero, keep_some}
 
--- A struct holds at most 16 terms.
+-- A struct holds as many terms as its count is read.
+pub terms_count : (s : Sum) → length s.terms ≡ 16 → length (terms_of s) ≡ min s.n 16
+unfolding terms_of
+terms_count s h = length-take-le (min s.n 16) s.terms (omega arith)
+
+-- That is at most 16.
 pub terms_most : (s : Sum) → length (terms_of s) ≤ 16
 unfolding terms_of
 terms_most s = omega (arith, length-take (min s.n 16) s.terms)

@@ -1,18 +1,19 @@
 -- What an insertion does at its place, and what the search for the place passes. Assumes nothing.
-use Prim.Native.Nat.{ℕ, zero, suc, ◌+◌, ◌≤◌, ◌<◌}
+use Prim.Native.Nat.{ℕ, zero, suc, ◌+◌, ◌-◌, ◌≤◌, ◌<◌}
 use mathlib.Core.Path.{◌≡◌, refl, sym, ap, ◌∙◌}
 use mathlib.Core.Bool.{Bool, true, false, cond}
 use mathlib.Core.List.{List, [], ◌∷◌, ◌++◌}
 use native.Mathlib.Numerals.{add-one}
 use native.Mathlib.Omega.{arith}
 use lib.Dec.{eqb, ltb}
-use lib.ListN.{length, get_or, take, drop, set, take-append-drop}
+use lib.ListN.{length, get_or, take, drop, set, take-append-drop, length-append}
 use lib.Seq.{drop-cons, set_split}
 use Rattle.std.specs.Prelude.{Option, Some, None, MatchOption}
 use Rattle.std.specs.Option.{unwrap_or}
 use Rattle.std.specs.List.{AllWithin, HoldsAt, prefix_len}
 use Rattle.std.proofs.lemmas.List.Sums.{prefix_len-le-length, prefix_len_is, prefix_len_passes, prefix_len_stops}
-use Rattle.std.proofs.lemmas.List.{at_drop_all}
+use Rattle.std.proofs.lemmas.List.{at_drop_all, take-append-le}
+use Rattle.std.proofs.Math.Seq.{take-append_seam}
 use borrow.Author.Tests.{ltb-true, ltb-false, lt-ltb, le-ltb, eq-eqb, ne_eqb}
 use Rattle.model.specs.Word.{plus}
 use Rattle.sum.specs.declared.Term.{Term}
@@ -83,6 +84,23 @@ place_found m s None w = sym (prefix_len_is _ s (length s) zero_term (omega arit
 place_found m s (Some i) w = sym (prefix_len_is _ s i zero_term (omega arith) (λ k h. w.2 k zero_term (omega arith) h) (λ _. w.1 zero_term))
 
 -- What the code does at the place that it found.
+
+-- A term that was put behind all others, and then before those from place i on, is kept there.
+pub put_in : (xs s l : List Term) (t : Term) (i : ℕ) → i ≤ length xs → s ≡ xs ++ t ∷ [] → (t.coef ≡ 0 → ⊥)
+    → l ≡ take i s ++ t ∷ drop i (take (length s - 1) s)
+    → l ≡ take i xs ++ keep_k t (drop i xs)
+put_in xs s l t i h e z k =
+    let n : length s ≡ length xs + 1 = ap length e ∙ length-append xs (t ∷ []) in
+    let m : length s - 1 ≡ length xs = omega arith in
+    let a : take i s ≡ take i xs = ap (take i) e ∙ take-append-le i xs (t ∷ []) h in
+    let b : take (length s - 1) s ≡ xs = (λ j. take (m j) (e j)) ∙ take-append_seam xs (t ∷ []) in
+    k ∙ (λ j. a j ++ t ∷ drop i (b j)) ∙ ap (λ r. take i xs ++ r) (sym (keep_some t (drop i xs) z))
+
+-- Of terms of which those behind place i were moved down, all but the last are left.
+pub left_out : (xs s l r : List Term) (i : ℕ) → s ≡ xs → r ≡ l → length l ≡ length s
+    → take (length s - 1) l ≡ take i s ++ drop (suc i) s
+    → take (length r - 1) r ≡ take i xs ++ drop (suc i) xs
+left_out xs s l r i e f g h = (λ j. take (length (f j) - 1) (f j)) ∙ (λ j. take (g j - 1) l) ∙ h ∙ (λ j. take i (e j) ++ drop (suc i) (e j))
 
 -- A term of zero coefficient changes nothing.
 pub kept_zero : (t : Term) (s : List Term) (i : ℕ) → t.coef ≡ 0 → s ≡ take i s ++ keep_k t (drop i s)

@@ -1,5 +1,6 @@
 pub mod Lists
 pub mod Insertion
+pub mod Full
 pub mod Held
 pub mod Product
 pub mod Paper

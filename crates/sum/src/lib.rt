@@ -3,7 +3,7 @@
 // over 16 is read as 16, and entries past the count of a result are zero. Terms are collected in a vector of fixed capacity. Assumes nothing.
 #![tactic(auto)]
 
-ghost use Rattle.std.specs.Prelude.{◌≡◌, ◌+◌, ◌≤◌, ◌<◌, [], ◌++◌, suc, ltb, OnOk, OnErr, length, take, drop, get_or};
+ghost use Rattle.std.specs.Prelude.{◌≡◌, ◌+◌, ◌-◌, ◌≤◌, ◌<◌, [], ◌∷◌, ◌++◌, suc, ltb, OnOk, OnErr, length, take, drop, get_or};
 ghost use Rattle.std.specs.List.{prefix_len};
 ghost use Rattle.model.specs.Word.{base};
 ghost use Rattle.model.specs.Sum.{fits, too_large};
@@ -39,6 +39,35 @@ fn place(ts: &[Term], mono: u32) -> usize
     ts.iter().position(|t| t.mono >= mono).unwrap_or(ts.len())
 }
 
+// Stays: the vector's own `insert` and `remove` need `memmove`, which a program in C that links the archive may not have.
+// A term is put before place i of those in front of the last, whose place is taken.
+fn put_before(ts: &mut [Term], i: usize, t: Term)
+    requires { i < length ts.old }
+    ensures { ts.new ≡ take i ts.old ++ t ∷ drop i (take (length ts.old - 1) ts.old) }
+{
+    let last = ts.len() - 1;
+    let mut carry = t;
+    for j in i..last {
+        let next = ts[j];
+        ts[j] = carry;
+        carry = next;
+    }
+    ts[last] = carry;
+}
+
+// The terms behind place i are moved down by one.
+fn take_out(ts: &mut [Term], i: usize)
+    requires { i < length ts.old }
+    ensures length { length ts.new ≡ length ts.old }
+    ensures moved { take (length ts.old - 1) ts.new ≡ take i ts.old ++ drop (suc i) ts.old }
+{
+    let last = ts.len() - 1;
+    for j in i..last {
+        let next = ts[j + 1];
+        ts[j] = next;
+    }
+}
+
 // A term is put before place i, unless its coefficient is zero.
 #[tactic(auto, using(crate::proofs::Insertion::keeping))]
 fn keep<const N: usize>(ts: &mut ArrayVec<Term, N>, i: usize, t: Term)
@@ -47,7 +76,8 @@ fn keep<const N: usize>(ts: &mut ArrayVec<Term, N>, i: usize, t: Term)
     ensures { ts.new.items ≡ take i ts.old.items ++ keep_k t (drop i ts.old.items) }
 {
     if t.coef != 0 {
-        ts.insert(i, t);
+        ts.push(t);
+        put_before(ts.as_mut_slice(), i, t);
     }
 }
 
@@ -59,7 +89,8 @@ fn join<const N: usize>(ts: &mut ArrayVec<Term, N>, i: usize, t: Term)
 {
     let joined = word::plus(t.coef, ts[i].coef);
     if joined == 0 {
-        ts.remove(i);
+        take_out(ts.as_mut_slice(), i);
+        ts.pop();
     } else {
         ts[i].coef = joined;
     }

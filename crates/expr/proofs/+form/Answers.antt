@@ -11,7 +11,7 @@ pub returns-then-kind-eq-CONSTANT : goal.returns-then-kind-eq-CONSTANT
 returns-then-kind-eq-CONSTANT t c = constant_summed _ _ _ c.requires c.if-kind-eq-CONSTANT.true c.constant.ensures
 
 pub returns-then-kind-eq-VARIABLE : goal.returns-then-kind-eq-VARIABLE
-returns-then-kind-eq-VARIABLE t c = variable_summed _ _ _ c.requires c.if-kind-eq-VARIABLE.true c.get.ensures
+returns-then-kind-eq-VARIABLE t c = variable_summed _ _ _ c.requires c.if-kind-eq-VARIABLE.true c.get.ensures.value
 
 pub form-requires : goal.form-requires
 form-requires t c = (omega (arith, stands_within _ _ c.requires), first_stands _ _ c.requires (omega arith))

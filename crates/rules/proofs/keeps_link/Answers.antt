@@ -3,4 +3,4 @@ use Rattle.rules.proofs.Members.{keeps_is}
 use Rattle.rules.proofs.keeps_link.Goals as goal
 
 pub returns : goal.returns
-returns c = keeps_is _ _ _ _ c.get-a.ensures c.get-b.ensures c.same.ensures
+returns c = keeps_is _ _ _ _ c.get-a.ensures.value c.get-b.ensures.value c.same.ensures

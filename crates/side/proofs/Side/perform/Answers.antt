@@ -52,12 +52,12 @@ push-requires c =
 
 pub returns-in_ok-s-in-Assign : goal.returns-in_ok-s-in-Assign
 unfolding followed_as
-returns-in_ok-s-in-Assign c = assign_done _ _ _ c.in-Assign.is c.sum_at.ensures c.in_ok-s-in-Assign.was c.set.ensures
+returns-in_ok-s-in-Assign c = assign_done _ _ _ c.in-Assign.is c.sum_at.ensures c.in_ok-s-in-Assign.was c.set.ensures.after
 
 pub returns-else-not-has_room : goal.returns-else-not-has_room
 unfolding followed_as
 returns-else-not-has_room c =
-    read_done _ _ _ c.in-Read.is c.count_on-n.ensures c.has_room.ensures c.if-not-has_room.false c.read_symbol.ensures c.symbol.ensures c.set-in-Read.ensures
+    read_done _ _ _ c.in-Read.is c.count_on-n.ensures c.has_room.ensures c.if-not-has_room.false c.read_symbol.ensures c.symbol.ensures c.set-in-Read.ensures.after
 
 pub returns-else-not-has_room-2 : goal.returns-else-not-has_room-2
 unfolding followed_as

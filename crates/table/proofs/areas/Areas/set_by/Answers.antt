@@ -1,18 +1,16 @@
 -- `table::areas::Areas::set_by` is the variable that the model's action sets. Assumes nothing.
-use mathlib.Core.Path.{sym, ap}
-use Rattle.table.specs.Checks.{set_of}
-use Rattle.table.specs.Decoded.{action_meant}
-use Rattle.table.proofs.Decoding.{action_meant_lem}
+use native.Mathlib.Omega.{arith}
+use Rattle.model.specs.Table.{code_area}
+use Rattle.table.proofs.Decoding.{action_decoded}
+use Rattle.table.proofs.Setting.{set_assign, set_read, set_nothing}
 use Rattle.table.proofs.areas.Areas.set_by.Goals as goal
 
-pub returns-in-Assign : goal.returns-in-Assign
-unfolding set_of action_meant
-returns-in-Assign c = sym (ap set_of (action_meant_lem _ _ c.args.self.now.actions_begin c.action.ensures c.in-Assign.ensures))
+pub returns-in-0 : goal.returns-in-0
+returns-in-0 c = set_assign (code_area c.args.self.now.image.now) _ _ (action_decoded _ _ c.args.self.now.actions_begin c.action-a.ensures) c.in-0.is
 
-pub returns-in-Read : goal.returns-in-Read
-unfolding set_of action_meant
-returns-in-Read c = sym (ap set_of (action_meant_lem _ _ c.args.self.now.actions_begin c.action.ensures c.in-Read.ensures))
+pub returns-in-1 : goal.returns-in-1
+returns-in-1 c = set_read (code_area c.args.self.now.image.now) _ _ (action_decoded _ _ c.args.self.now.actions_begin c.action-a.ensures) c.in-1.is
 
-pub returns-in-Write : goal.returns-in-Write
-unfolding set_of action_meant
-returns-in-Write c = sym (ap set_of (action_meant_lem _ _ c.args.self.now.actions_begin c.action.ensures c.in-Write.ensures))
+pub returns-in_default : goal.returns-in_default
+returns-in_default c =
+    set_nothing (code_area c.args.self.now.image.now) _ _ (action_decoded _ _ c.args.self.now.actions_begin c.action-a.ensures) (λ e. omega arith) (λ e. omega arith)
