@@ -63,7 +63,7 @@ impl Env {
     }
 
     // The sum of a variable replaced; nothing changes for a variable of 16 and more.
-    #[tactic(auto, unfolding(crate::specs::Env::with_variable))]
+    #[tactic(auto, unfolding(crate::specs::Env::with_variable, crate::specs::Env::sums_of))]
     pub fn set(&mut self, v: usize, s: Sum)
         ensures after { self.new ≡ with_variable self.old v s }
         ensures stored { v < 16 → get_or (sums_of self.new) v [] ≡ terms_of s }

@@ -4,7 +4,7 @@ use native.Mathlib.Omega.{arith}
 use Rattle.std.proofs.lemmas.Result.{err_from_is_err_and}
 use Rattle.env.proofs.Stored.{sums_few}
 use Rattle.expr.proofs.Standing.{stands_within, first_stands}
-use Rattle.expr.proofs.Summed.{constant_summed, variable_summed, negation_summed, second_summed, left_large, right_large, both_fit, where_fits, fits_or_not}
+use Rattle.expr.proofs.Summed.{constant_summed, variable_summed, negation_summed, second_summed, left_large, right_refused, both_fit, where_fits, not_both, fits_or_not}
 use Rattle.expr.proofs.+form.Goals as goal
 
 pub returns-then-kind-eq-CONSTANT : goal.returns-then-kind-eq-CONSTANT
@@ -36,10 +36,10 @@ pub returns-in_err-right : goal.returns-in_err-right
 returns-in_err-right t c =
     let p = err_from_is_err_and c.from_residual-in_err-right.result c.from_residual-in_err-right.ensures.1 in
     let left = where_fits c.form.ensures c.in_ok-left.was in
-    rw p.1 (right_large _ _ _ c.requires (omega arith) (sums_few _) left c.if-kind-eq-NEGATION.false c.form-2.ensures.0 c.in_err-right.was, tt)
+    rw p.1 (right_refused _ _ _ c.requires (omega arith) (sums_few _) left c.if-kind-eq-NEGATION.false _ c.form-2.ensures.0 (λ s h. not_both {s = s} (search) c.in_err-right.was), tt)
 
 pub returns : goal.returns
 returns t c =
     let left = where_fits c.form.ensures c.in_ok-left.was in
-    let right = where_fits c.form-2.ensures c.in_ok-right.was in
-    fits_or_not c.combined.result (both_fit _ _ _ c.requires (omega arith) (sums_few _) left c.if-kind-eq-NEGATION.false c.in_ok-left.was right c.in_ok-right.was c.combined.ensures)
+    let right = where_fits {x = c.form-2.result} {s = c.in_ok-right.right} c.form-2.ensures (search) in
+    fits_or_not c.combined.result (both_fit _ _ _ c.requires (omega arith) (sums_few _) left c.if-kind-eq-NEGATION.false c.in_ok-left.was right (search) c.combined.ensures)
