@@ -87,12 +87,12 @@ number_foreign l (Ok s) P Q m h = absurd cc
 number_foreign l (Err e) P Q m h = number_none l (λ w. m.0 (IsUtf8-from_ascii l (IsAscii-from_digits l (own.to l w.0))))
 
 -- The text that was found to be UTF-8 is the one that was given.
-pub same_text : {E : Type 0} (l : List ℕ) (r : Result (Bor (List ℕ)) E) (d : Bor (List ℕ)) (Q : E → Type 0)
-    → MatchResult r (λ s. (s.now ≡ l) × IsUtf8 l) Q
+pub same_text : {E : Type 0} (l : List ℕ) (r : Result (Bor (List ℕ)) E) (d : Bor (List ℕ)) (P : Bor (List ℕ) → Type 0) (Q : E → Type 0)
+    → MatchResult r (λ s. (s.now ≡ l) × P s) Q
     → Some d ≡ result_ok r
     → d.now ≡ l
-same_text l (Ok s) d Q m h = let e : d ≡ s = cc in rw e m.0
-same_text l (Err e) d Q m h = absurd cc
+same_text l (Ok s) d P Q m h = let e : d ≡ s = cc in rw e m.0
+same_text l (Err e) d P Q m h = absurd cc
 
 -- Any other text writes what std reads.
 

@@ -74,12 +74,12 @@ buffer_act before (write p e) h =
     length-set (set h.buffer h.written p) (h.written + 1) (value base before e) ∙ length-set h.buffer h.written p
 
 -- Along the actions of an edge, at action i: what they do from here on is what all of them do, and there is room for it.
-pub record Performing (image input : List ℕ) (start : Hand) (begun : List ℕ) (e : EdgeRecord) (h : Hand) (out : List ℕ) (i : ℕ) : Type 0 where
+pub record Performing (image input before : List ℕ) (start : Hand) (begun : List ℕ) (e : EdgeRecord) (h : Hand) (out : List ℕ) (i : ℕ) : Type 0 where
   pub room : h.written + 2 * writes_in (acts image i (e.first + e.count)) ≤ length out
-  pub rest : act_all_h base start.variables (acts image i (e.first + e.count)) (held_of input h out)
-      ≡ act_all_h base start.variables (actions_of image e) (held_of input start begun)
+  pub rest : act_all_h base before (acts image i (e.first + e.count)) (held_of input h out)
+      ≡ act_all_h base before (actions_of image e) (held_of input start begun)
 
-module _ {image input : List ℕ} {start : Hand} {begun : List ℕ} {e : EdgeRecord} {h : Hand} {out : List ℕ} {i : ℕ} (s : Performing image input start begun e h out i) where
+module _ {image input before : List ℕ} {start : Hand} {begun : List ℕ} {e : EdgeRecord} {h : Hand} {out : List ℕ} {i : ℕ} (s : Performing image input before start begun e h out i) where
   module _ (more : i < e.first + e.count) {a : Model.Action} (is : action_at image i ≡ a) where
     -- The actions from i on are action i and those behind it.
     split : acts image i (e.first + e.count) ≡ a ∷ acts image (i + 1) (e.first + e.count)
@@ -94,25 +94,25 @@ module _ {image input : List ℕ} {start : Hand} {begun : List ℕ} {e : EdgeRec
     pub perform_room : h.written + 2 * writes_of a ≤ length out
     perform_room = omega (arith, room_all)
 
-    pub perform_step : (h' : Hand) (out' : List ℕ) → held_of input h' out' ≡ act_h base start.variables a (held_of input h out)
-        → Performing image input start begun e h' out' (i + 1)
+    pub perform_step : (h' : Hand) (out' : List ℕ) → held_of input h' out' ≡ act_h base before a (held_of input h out)
+        → Performing image input before start begun e h' out' (i + 1)
     unfolding act_all_h held_by held
     perform_step h' out' same =
-        let further : h'.written ≡ h.written + 2 * writes_of a = ap (λ z. z.written) same ∙ written_act start.variables a (held_of input h out) in
-        let kept : length out' ≡ length out = ap (λ z. length z.buffer) same ∙ buffer_act start.variables a (held_of input h out) in
+        let further : h'.written ≡ h.written + 2 * writes_of a = ap (λ z. z.written) same ∙ written_act before a (held_of input h out) in
+        let kept : length out' ≡ length out = ap (λ z. length z.buffer) same ∙ buffer_act before a (held_of input h out) in
         record {
           room = omega (arith, room_all);
           rest =
-              ap (act_all_h base start.variables (acts image (i + 1) (e.first + e.count))) same
-              ∙ sym (ap (λ l. act_all_h base start.variables l (held_of input h out)) split)
+              ap (act_all_h base before (acts image (i + 1) (e.first + e.count))) same
+              ∙ sym (ap (λ l. act_all_h base before l (held_of input h out)) split)
               ∙ s.rest;
         }
 
   pub perform_end : e.first + e.count ≤ i
-      → held_of input h out ≡ act_all_h base start.variables (actions_of image e) (held_of input start begun)
+      → held_of input h out ≡ act_all_h base before (actions_of image e) (held_of input start begun)
   unfolding act_all_h
   perform_end m =
-      sym (ap (λ l. act_all_h base start.variables l (held_of input h out)) (acts_none image i (e.first + e.count) m)) ∙ s.rest
+      sym (ap (λ l. act_all_h base before l (held_of input h out)) (acts_none image i (e.first + e.count) m)) ∙ s.rest
 
 -- The same after all actions.
 

@@ -115,37 +115,46 @@ few_writes n (read p v) = omega arith
 few_writes n (write p e) = omega arith
 
 -- Along the actions of an edge, at action i: what they need from here on is what all of them need.
-pub record Spending (image : List ℕ) (start : List ℕ) (e : EdgeRecord) (left : List ℕ) (w i : ℕ) : Type 0 where
-  pub few : w + (e.first + e.count - i) ≤ 16
-  pub rest : spend_all (needing left w) (acts image i (e.first + e.count)) ≡ need_of start (actions_of image e)
+pub record Spending (image : List ℕ) (start : Need) (e : EdgeRecord) (now : Need) (i : ℕ) : Type 0 where
+  pub few : now.writes + (e.first + e.count - i) ≤ 16
+  pub rest : spend_all now (acts image i (e.first + e.count)) ≡ spend_all start (actions_of image e)
 
-pub spending_start : (image start : List ℕ) (e : EdgeRecord) → e.count ≤ 16 → Spending image start e start 0 e.first
-unfolding need_of
-spending_start image start e h = record { few = omega arith; rest = ap (spend_all (needing start 0)) (acts_all image e) }
+pub spending_start : (image : List ℕ) (start : Need) (e : EdgeRecord) → start.writes ≡ 0 → e.count ≤ 16 → Spending image start e start e.first
+spending_start image start e none h = record { few = omega arith; rest = ap (spend_all start) (acts_all image e) }
 
-module _ {image start : List ℕ} {e : EdgeRecord} {left : List ℕ} {w i : ℕ} (s : Spending image start e left w i) where
-  module _ (more : i < e.first + e.count) {a : Model.Action} (is : action_at image i ≡ a) {o : Option ℕ} (spent : o ≡ count_of (spend (needing left w) a)) where
+module _ {image : List ℕ} {start : Need} {e : EdgeRecord} {now : Need} {i : ℕ} (s : Spending image start e now i) where
+  module _ (more : i < e.first + e.count) {a : Model.Action} (is : action_at image i ≡ a) {o : Option ℕ} (spent : o ≡ count_of (spend now a)) where
     -- What is needed from action i on, behind that action.
-    turn : spend_all (spend (needing left w) a) (acts image (i + 1) (e.first + e.count)) ≡ need_of start (actions_of image e)
+    turn : spend_all (spend now a) (acts image (i + 1) (e.first + e.count)) ≡ spend_all start (actions_of image e)
     unfolding spend_all
-    turn =
-        rw (← is) (sym (ap (spend_all (needing left w)) (acts_cons image i (e.first + e.count) more)) ∙ s.rest)
+    turn = rw (← is) (sym (ap (spend_all now) (acts_cons image i (e.first + e.count) more)) ∙ s.rest)
 
-    pub spending_step : {r : ℕ} {left' : List ℕ} → o ≡ Some r → left' ≡ (spend (needing left w) a).left → Spending image start e left' r (i + 1)
+    pub spending_step : {r : ℕ} {left' : List ℕ} → o ≡ Some r → left' ≡ (spend now a).left → Spending image start e (needing left' r) (i + 1)
     spending_step k l =
-        let same = met_is (spend (needing left w) a) spent k l in
-        let count = (met (spend (needing left w) a) spent k).1 in
-        record { few = omega (arith, s.few, few_writes (needing left w) a); rest = rw same turn }
+        let same = met_is (spend now a) spent k l in
+        let count = (met (spend now a) spent k).1 in
+        record { few = omega (arith, s.few, few_writes now a); rest = rw same turn }
 
     -- Where a word is lacking for an action, it is lacking for all.
-    pub needed_none : (left' : List ℕ) → o ≡ None → Needed (need_of start (actions_of image e)) None left'
-    unfolding count_of
-    needed_none left' k =
-        let lacks = ap (λ z. z.enough) (sym turn) ∙ lacks_all (spend (needing left w) a) (acts image (i + 1) (e.first + e.count)) (unmet (spend (needing left w) a) spent k) in
-        record { counts = rw lacks refl; leaves = λ enough. clash enough lacks }
+    spending_lacks : o ≡ None → (spend_all start (actions_of image e)).enough ≡ false
+    spending_lacks k =
+        ap (λ z. z.enough) (sym turn) ∙ lacks_all (spend now a) (acts image (i + 1) (e.first + e.count)) (unmet (spend now a) spent k)
 
-  pub needed_all : e.first + e.count ≤ i → Needed (need_of start (actions_of image e)) (Some w) left
-  unfolding spend_all count_of
-  needed_all h =
-      let all : needing left w ≡ need_of start (actions_of image e) = sym (ap (spend_all (needing left w)) (acts_none image i (e.first + e.count) h)) ∙ s.rest in
-      record { counts = ap count_of all; leaves = λ enough. ap (λ z. z.left) all }
+  spending_end : e.first + e.count ≤ i → now ≡ spend_all start (actions_of image e)
+  unfolding spend_all
+  spending_end h = sym (ap (spend_all now) (acts_none image i (e.first + e.count) h)) ∙ s.rest
+
+module _ {image left : List ℕ} {e : EdgeRecord} {now : Need} {i : ℕ} (s : Spending image (needing left 0) e now i) where
+  pub needed_none : i < e.first + e.count → {a : Model.Action} → action_at image i ≡ a → {o : Option ℕ} → o ≡ count_of (spend now a)
+      → (left' : List ℕ) → o ≡ None → Needed (need_of left (actions_of image e)) None left'
+  unfolding need_of count_of
+  needed_none more is spent left' k =
+      let lacks = spending_lacks s more is spent k in
+      record { counts = rw lacks refl; leaves = λ enough. clash enough lacks }
+
+pub needed_all : {image left left' : List ℕ} {e : EdgeRecord} {w i : ℕ} → Spending image (needing left 0) e (needing left' w) i → e.first + e.count ≤ i
+    → Needed (need_of left (actions_of image e)) (Some w) left'
+unfolding need_of count_of
+needed_all s h =
+    let all = spending_end s h in
+    record { counts = ap count_of all; leaves = λ enough. ap (λ z. z.left) all }

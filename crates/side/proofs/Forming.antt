@@ -80,10 +80,14 @@ module _ (code : List ℕ) {s : State} {k : Kind} {l r t f : ℕ} (is : s ≡ Te
         unfolding asks
         ask_right h = sym (test_asks ∙ sum_goes _ d (asks code k r b d) first left ∙ sum_stuck _ d _ second h)
 
-        pub ask_both : {q : Sum} {c : Conditions} → y ≡ Ok q → length (conditions_of d.conditions) < 32 → c ≡ pushed d.conditions (record { kind = k; left = p; right = q; taken = b })
+        pub ask_both : {q : Sum} {c : Conditions} → y ≡ Ok q → c ≡ with_condition d.conditions k p q b
             → whole (record { state = d.state; conditions = c; env = d.env; reads = d.reads; writes = d.writes }) ≡ asked_in code s b d
         unfolding asks with_asked
-        ask_both {q = q} h room e =
-            let w = e ∙ pushed_room d.conditions (record { kind = k; left = p; right = q; taken = b }) room in
-            (λ i. whole (record { state = d.state; conditions = w i; env = d.env; reads = d.reads; writes = d.writes }))
+        ask_both h e =
+            (λ i. whole (record { state = d.state; conditions = e i; env = d.env; reads = d.reads; writes = d.writes }))
             ∙ sym (test_asks ∙ sum_goes _ d (asks code k r b d) first left ∙ sum_goes _ d _ second h)
+
+        -- So it does where the condition is pushed, and there is room.
+        pub ask_pushed : {q : Sum} {c : Conditions} → y ≡ Ok q → length (conditions_of d.conditions) < 32 → c ≡ pushed d.conditions (record { kind = k; left = p; right = q; taken = b })
+            → whole (record { state = d.state; conditions = c; env = d.env; reads = d.reads; writes = d.writes }) ≡ asked_in code s b d
+        ask_pushed {q = q} h room e = ask_both h (e ∙ pushed_room d.conditions (record { kind = k; left = p; right = q; taken = b }) room)

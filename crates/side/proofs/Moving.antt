@@ -1,6 +1,6 @@
 -- What one action makes of a side, by its kind; along the actions of an edge, what is left of them makes of the side what all make of the
 -- side before the edge; and the ports of a side cleared in turn. Assumes nothing.
-use Prim.Native.Nat.{ℕ, ◌+◌, ◌-◌, ◌≤◌, ◌<◌}
+use Prim.Native.Nat.{ℕ, zero, suc, ◌+◌, ◌-◌, ◌≤◌, ◌<◌}
 use mathlib.Core.Path.{◌≡◌, refl, sym, ◌∙◌, ap}
 use mathlib.Core.Bool.{Bool, true, false, cond}
 use mathlib.Core.List.{List, [], ◌∷◌, ◌++◌, map, append-nil}
@@ -73,6 +73,13 @@ port_room ws p w four counted asked h =
     let e = ap (λ (x : Port). length x.items) (port_any ws p _ w four asked h) in
     omega (arith, e, counted, (room_both asked h).1)
 
+-- A port that is given a sum is the same whatever stands past the end, where there is no port to give it to.
+given_to : (ws : List Port) (p : ℕ) (v : Port) (s : Sum) {w : Port} → w.items ≡ (get_or ws p v).items ++ (s ∷ []) → set ws p w ≡ set ws p (with_sum (get_or ws p no_port) s)
+unfolding with_sum
+given_to [] p v s k = refl
+given_to (x ∷ ws) zero v s k = λ i. record { items = k i } ∷ ws
+given_to (x ∷ ws) (suc p) v s k = ap (λ l. x ∷ l) (given_to ws p v s k)
+
 module _ (code : List ℕ) (before : Env) (d : Side) {a : Action} where
   -- An assign.
   module _ {v e : ℕ} (is : a ≡ Assign v e) where
@@ -141,13 +148,12 @@ module _ (code : List ℕ) (before : Env) (d : Side) {a : Action} where
         pub write_full : b ≡ false → stuck d ≡ action_k before (action_meant code a) d
         write_full h = sym (gives_on false h)
 
-        pub write_done : (v : Port) {w : Port} → length d.writes ≡ 4 → b ≡ true → w.items ≡ (get_or d.writes p v).items ++ (s ∷ [])
+        pub write_done : (v : Port) {w : Port} → b ≡ true → w.items ≡ (get_or d.writes p v).items ++ (s ∷ [])
             → whole (record { state = d.state; conditions = d.conditions; env = d.env; reads = d.reads; writes = set d.writes p w })
             ≡ action_k before (action_meant code a) d
-        unfolding with_given with_write with_sum
-        write_done v four h k =
-            let e = k ∙ ap (λ (x : Port). x.items ++ (s ∷ [])) (port_any d.writes p _ v four asked h) in
-            (λ i. whole (record { state = d.state; conditions = d.conditions; env = d.env; reads = d.reads; writes = set d.writes p (record { items = e i }) }))
+        unfolding with_given with_write
+        write_done v h k =
+            (λ i. whole (record { state = d.state; conditions = d.conditions; env = d.env; reads = d.reads; writes = given_to d.writes p v s k i }))
             ∙ sym (gives_on true h)
 
 -- The actions from i on are still to be done.

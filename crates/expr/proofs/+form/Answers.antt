@@ -24,22 +24,22 @@ returns-in_err-left t c =
 pub returns-then-kind-eq-NEGATION : goal.returns-then-kind-eq-NEGATION
 returns-then-kind-eq-NEGATION t c =
     let left = where_fits c.form.ensures c.in_ok-left.was in
-    negation_summed _ _ _ c.requires (omega arith) (sums_few _) left c.in_ok-left.was c.if-kind-eq-NEGATION.true c.negate.ensures
+    negation_summed _ _ _ c.requires (omega arith) left (sums_few _) c.in_ok-left.was c.if-kind-eq-NEGATION.true c.negate.ensures
 
 pub form-requires-2 : goal.form-requires-2
 form-requires-2 t c =
     let left = where_fits c.form.ensures c.in_ok-left.was in
-    let second = second_summed _ _ _ c.requires (omega arith) (sums_few _) left c.if-kind-eq-NEGATION.false in
+    let second = second_summed _ _ _ c.requires (omega arith) left c.if-kind-eq-NEGATION.false in
     (omega (arith, left.1, stands_within _ _ second), second)
 
 pub returns-in_err-right : goal.returns-in_err-right
 returns-in_err-right t c =
     let p = err_from_is_err_and c.from_residual-in_err-right.result c.from_residual-in_err-right.ensures.1 in
     let left = where_fits c.form.ensures c.in_ok-left.was in
-    rw p.1 (right_refused _ _ _ c.requires (omega arith) (sums_few _) left c.if-kind-eq-NEGATION.false _ c.form-2.ensures.0 (λ s h. not_both {s = s} (search) c.in_err-right.was), tt)
+    rw p.1 (right_refused _ _ _ c.requires (omega arith) left c.if-kind-eq-NEGATION.false _ c.form-2.ensures.0 (λ s h. not_both {s = s} (search) c.in_err-right.was), tt)
 
 pub returns : goal.returns
 returns t c =
     let left = where_fits c.form.ensures c.in_ok-left.was in
     let right = where_fits {x = c.form-2.result} {s = c.in_ok-right.right} c.form-2.ensures (search) in
-    fits_or_not c.combined.result (both_fit _ _ _ c.requires (omega arith) (sums_few _) left c.if-kind-eq-NEGATION.false c.in_ok-left.was right (search) c.combined.ensures)
+    fits_or_not c.combined.result (both_fit _ _ _ c.requires (omega arith) left (sums_few _) c.if-kind-eq-NEGATION.false c.in_ok-left.was right (search) c.combined.ensures)

@@ -13,5 +13,5 @@ returns-in_err-digits c = c.from_residual.ensures ∙ number_foreign c.args.text
 pub returns : goal.returns
 returns c =
     let p = first_is_not c.args.text.now 43 (λ z. omega arith) (cc (c.if-eq.false, c.eq.ensures, c.copied.ensures, c.first.ensures.value)) in
-    let e = same_text c.args.text.now c.from_utf8.result c.in_ok-digits.digits _ c.from_utf8.ensures.cases c.in_ok-digits.ensures.value in
+    let e = same_text c.args.text.now c.from_utf8.result c.in_ok-digits.digits _ _ c.from_utf8.ensures.cases c.in_ok-digits.ensures.value in
     c.ok-2.ensures.value ∙ number_read c.args.text.now c.parse.result (rw e at c.parse.ensures.value.0) p

@@ -1,5 +1,6 @@
 -- `run::needs` meets its contract. The loop's invariant is `Spending`: what the actions need from here on is what all of them need.
 -- Assumes nothing.
+use mathlib.Core.Path.{refl}
 use native.Mathlib.Omega.{arith}
 use Rattle.table.proofs.Decoding.{counts}
 use Rattle.run.proofs.Spending.{port_fits, spending_start, spending_step, needed_none, needed_all}
@@ -9,7 +10,7 @@ pub overflow_add-i-end : goal.overflow_add-i-end
 overflow_add-i-end c = omega (arith, (counts _ c.args.table.now.passed).1.1)
 
 pub loop-i-init : goal.loop-i-init
-loop-i-init c = spending_start _ _ _ c.requires.1
+loop-i-init c = spending_start _ _ _ refl c.requires.1
 
 pub spent-requires-clause-ports : goal.spent-requires-clause-ports
 spent-requires-clause-ports c p v e = port_fits _ c.action.ensures.fits e

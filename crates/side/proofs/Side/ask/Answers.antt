@@ -1,7 +1,7 @@
 -- `side::Side::ask` adds the condition of a test. Assumes nothing.
 use mathlib.Core.Path.{◌∙◌}
 use Rattle.side.specs.Following.{followed_as}
-use Rattle.side.proofs.Forming.{err_stuck, none_asked, test_formed, ask_left, ask_right, ask_both}
+use Rattle.side.proofs.Forming.{err_stuck, none_asked, test_formed, ask_left, ask_right, ask_pushed}
 use Rattle.side.proofs.Side.ask.Goals as goal
 
 pub returns-in_default : goal.returns-in_default
@@ -24,4 +24,4 @@ returns-in_err-second c =
 
 pub returns : goal.returns
 unfolding followed_as
-returns c = ask_both _ c.in-Test.is _ _ c.sum_at.ensures c.in_ok-first.was c.sum_at-2.ensures c.in_ok-second.was c.requires.0 c.push.ensures
+returns c = ask_pushed _ c.in-Test.is _ _ c.sum_at.ensures c.in_ok-first.was c.sum_at-2.ensures c.in_ok-second.was c.requires.0 c.push.ensures

@@ -62,5 +62,5 @@ returns-else-not-has_room c =
 pub returns-else-not-has_room-2 : goal.returns-else-not-has_room-2
 unfolding followed_as
 returns-else-not-has_room-2 c =
-    write_done _ _ _ c.in-Write.is c.sum_at-in-Write.ensures c.in_ok-s-in-Write.was c.wrote_on.ensures c.has_room-in-Write.ensures _ (search)
+    write_done _ _ _ c.in-Write.is c.sum_at-in-Write.ensures c.in_ok-s-in-Write.was c.wrote_on.ensures c.has_room-in-Write.ensures _
     c.if-not-has_room-2.false c.push.ensures.items

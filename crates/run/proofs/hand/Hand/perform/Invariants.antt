@@ -4,4 +4,4 @@ use Rattle.run.proofs.Acting.{Performing}
 use Rattle.run.proofs.hand.Hand.perform.Given as goal
 
 abbrev pub invariant-loop-i : goal.invariant-loop-i
-invariant-loop-i l = Performing l.table.image.now l.input l.initial.self l.initial.out l.fn.edge l.self l.out l.i
+invariant-loop-i l = Performing l.table.image.now l.input l.initial.self.variables l.initial.self l.initial.out l.fn.edge l.self l.out l.i
