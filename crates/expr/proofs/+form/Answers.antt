@@ -1,6 +1,7 @@
 -- `expr::form` is the normal sum of an expression that stands at a place. Its cycle of calls is itself; the measure is how many words
 -- are left of the code. Assumes nothing.
 use native.Mathlib.Omega.{arith}
+use Rattle.std.proofs.lemmas.Grind.{common_steps}
 use Rattle.std.proofs.lemmas.Result.{err_from_is_err_and}
 use Rattle.env.proofs.Stored.{sums_few}
 use Rattle.expr.proofs.Standing.{stands_within, first_stands}
@@ -36,10 +37,10 @@ pub returns-in_err-right : goal.returns-in_err-right
 returns-in_err-right t c =
     let p = err_from_is_err_and c.from_residual-in_err-right.result c.from_residual-in_err-right.ensures.1 in
     let left = where_fits c.form.ensures c.in_ok-left.was in
-    rw p.1 (right_refused _ _ _ c.requires (omega arith) left c.if-kind-eq-NEGATION.false _ c.form-2.ensures.0 (λ s h. not_both {s = s} (search) c.in_err-right.was), tt)
+    rw p.1 (right_refused _ _ _ c.requires (omega arith) left c.if-kind-eq-NEGATION.false _ c.form-2.ensures.0 (λ s h. not_both {s = s} (grind (arith, common_steps)) c.in_err-right.was), tt)
 
 pub returns : goal.returns
 returns t c =
     let left = where_fits c.form.ensures c.in_ok-left.was in
-    let right = where_fits {x = c.form-2.result} {s = c.in_ok-right.right} c.form-2.ensures (search) in
-    fits_or_not c.combined.result (both_fit _ _ _ c.requires (omega arith) left (sums_few _) c.if-kind-eq-NEGATION.false c.in_ok-left.was right (search) c.combined.ensures)
+    let right = where_fits {x = c.form-2.result} {s = c.in_ok-right.right} c.form-2.ensures (grind (arith, common_steps)) in
+    fits_or_not c.combined.result (both_fit _ _ _ c.requires (omega arith) left (sums_few _) c.if-kind-eq-NEGATION.false c.in_ok-left.was right (grind (arith, common_steps)) c.combined.ensures)
