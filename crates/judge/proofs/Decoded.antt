@@ -28,7 +28,7 @@ use Rattle.list.proofs.Linking.{Symbols, symbols_length, own_length, own_small, 
 use Rattle.side.specs.declared.Side.{Side}
 use Rattle.side.specs.Parts.{start_as}
 use Rattle.side.specs.Following.{follow_k, followed_as}
-use Rattle.side.proofs.Paper.{StandsEnv, Stands}
+use Rattle.side.proofs.Paper.{StandsEnv, Stands, loosened}
 use Rattle.side.proofs.Joined.{follow_large, follow_fits, symbols_stand}
 use Rattle.judge.specs.declared.images.PairOf.{PairOf}
 use Rattle.judge.specs.Images.{Checks, PartnerSymbols, Walked}
@@ -148,7 +148,7 @@ module _ (P : PairOf) {p : PairRecord} (pe : p ≡ pair_record P.images.list.now
       pub judged_marked : (path_at list j).impossible ≡ true → z ≡ Ok tt → {b : Bool} {q : Checked} → b ≡ contradicts_in (conditions_of f.conditions) → q ≡ found_of b NoContradiction j → q ≡ Judged
       judged_marked h k c e =
           let (m, fit, stands) = one_fits k in
-          e ∙ marked_found (table_of first) (table_of second) (pair_at list) (pair_at list i) j bits bits' r.target f m stands fit c ∙ by_parts h
+          e ∙ marked_found (table_of first) (table_of second) (pair_at list) (pair_at list i) j bits bits' r.target f m (loosened stands) fit c ∙ by_parts h
 
     -- The links of its target are few.
     pub target_room : {q : PairRecord} → q ≡ pair_record list r.target → q.link + q.links < 2 ^ 32
@@ -209,7 +209,7 @@ module _ (P : PairOf) {p : PairRecord} (pe : p ≡ pair_record P.images.list.now
             judged_both h fr e =
                 let (m, fit, stands) = one_fits z f fe one-fits in
                 let (n, fit', stands') = other_fits h in
-                both_found (table_of first) (table_of second) (pair_at list) (pair_at list i) j bits bits' r.target walks lead_one lead_other ho hs f g m n stands stands' fit fit' list q.link q.links
+                both_found (table_of first) (table_of second) (pair_at list) (pair_at list i) j bits bits' r.target walks lead_one lead_other ho hs f g m n (loosened stands) (loosened stands') fit fit' list q.link q.links
                 (fr ∙ links_begin (states first) (states second) list checks.2)
                 (ap (λ z. z.links) goal)
                 e

@@ -18,7 +18,7 @@ use Rattle.fault.specs.Fault.{fault_at, checked_of}
 use Rattle.fault.specs.declared.Reason.TheVariants.{NoContradiction}
 use Rattle.condition.specs.Conditions.{conditions_of, contradicts_in}
 use Rattle.side.specs.declared.Side.{Side}
-use Rattle.side.proofs.Paper.{Stands}
+use Rattle.side.proofs.Paper.{Agrees}
 use Rattle.rules.proofs.Paper.{contradicts_paper}
 use Rattle.judge.specs.Judging.{Checked, found_of, sides_in}
 use Rattle.judge.proofs.Findings.{test_broken, test_passed, test_last}
@@ -47,7 +47,7 @@ module _ (t u : Table) (pair_of : ℕ → Pair) (P : Pair) (j : ℕ) (bs cs : Li
   unfolding judge_path when_fits checked_of
   marked_large e = rw e refl
 
-  pub marked_found : (a : Side) (m : Model.Side) → Stands a m → First ≡ fits m → {b : Bool} → b ≡ contradicts_in (conditions_of a.conditions) → found_of b NoContradiction j ≡ Found true
+  pub marked_found : (a : Side) (m : Model.Side) → Agrees a m → First ≡ fits m → {b : Bool} → b ≡ contradicts_in (conditions_of a.conditions) → found_of b NoContradiction j ≡ Found true
   unfolding judge_path when_fits judge_impossible
   marked_found a m h e {b} c =
       let paper : b ≡ contradicts base m.conditions = c ∙ contradicts_paper _ _ h.conditions in
@@ -90,7 +90,7 @@ module _ (t u : Table) (pair_of : ℕ → Pair) (P : Pair) (j : ℕ) (bs cs : Li
     unfolding when_fits checked_of
     second_large h k e f = rw (sides_of h k, e, f) refl
 
-    pub both_found : first ≡ true → second ≡ true → (a b : Side) (m n : Model.Side) → Stands a m → Stands b n → First ≡ fits m → Second ≡ fits n
+    pub both_found : first ≡ true → second ≡ true → (a b : Side) (m n : Model.Side) → Agrees a m → Agrees b n → First ≡ fits m → Second ≡ fits n
         → (list : List ℕ) {at : ℕ} (i c : ℕ) → at ≡ links_at list → (pair_of target).links ≡ map (link_at list) (up_to i c)
         → {r : Checked} → r ≡ checked_of (sides_in list at i c j a b) → r ≡ Found false
     unfolding when_fits

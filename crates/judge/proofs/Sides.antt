@@ -15,7 +15,7 @@ use Rattle.fault.specs.declared.Reason.TheVariants.{LinkNotKept}
 use Rattle.fault.proofs.Rules.{all_kept_lem, passed}
 use Rattle.condition.specs.Conditions.{conditions_of, assured_in}
 use Rattle.side.specs.declared.Side.{Side}
-use Rattle.side.proofs.Paper.{Stands}
+use Rattle.side.proofs.Paper.{Agrees}
 use Rattle.side.proofs.Joined.{conditions_few}
 use Rattle.rules.proofs.Paper.{assured_paper, reads_paper, writes_paper, links_paper}
 use Rattle.rules.specs.Rules.{same_reads_in, same_writes_in, keeps_all_in}
@@ -24,10 +24,10 @@ use Rattle.judge.proofs.Findings.{test_broken, test_passed, test_last}
 
 -- A side's tests are at most 32: rule 14 is kept.
 
-pub one_few : (a : Side) (m : Model.Side) → Stands a m → (i : ℕ) (g : Fault) → (check over_tests i (le (length m.conditions) 32 ∷ []) then g) ≡ g
+pub one_few : (a : Side) (m : Model.Side) → Agrees a m → (i : ℕ) (g : Fault) → (check over_tests i (le (length m.conditions) 32 ∷ []) then g) ≡ g
 one_few a m h i g = passed over_tests i _ g (all_kept_lem _ (conditions_few _ _ h.conditions, tt)) refl
 
-module _ (a b : Side) (m n : Model.Side) (h : Stands a m) (k : Stands b n) where
+module _ (a b : Side) (m n : Model.Side) (h : Agrees a m) (k : Agrees b n) where
   both_few : (i : ℕ) (g : Fault) → (check over_tests i (le (length m.conditions) 32 ∷ le (length n.conditions) 32 ∷ []) then g) ≡ g
   both_few i g = passed over_tests i _ g (all_kept_lem _ (conditions_few _ _ h.conditions, (conditions_few _ _ k.conditions, tt))) refl
 

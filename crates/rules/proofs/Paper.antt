@@ -1,5 +1,5 @@
 -- The rules on sides as the code holds them are the paper's (`model`, Judgement), wherever a side stands for one of the paper (crate
--- `side`, proofs/Paper: Stands). Assumes nothing.
+-- `side`, proofs/Paper: Agrees). Assumes nothing.
 use Prim.Native.Nat.{ℕ, ◌<◌}
 use mathlib.Core.Path.{◌≡◌, refl, sym, ◌∙◌, ap}
 use mathlib.Core.Bool.{Bool, ◌&&◌}
@@ -24,7 +24,7 @@ use Rattle.condition.specs.Conditions.{conditions_of, contradicts_in, assured_in
 use Rattle.condition.proofs.Paper as Conditions
 use Rattle.condition.proofs.Paper.{same_paper}
 use Rattle.side.specs.declared.Side.{Side}
-use Rattle.side.proofs.Paper.{StandsAsked, Stands}
+use Rattle.side.proofs.Paper.{StandsAsked, Agrees}
 use Rattle.side.proofs.Joined.{conditions_read, port_read, variable_read}
 use Rattle.rules.specs.Rules.{same_reads_in, given_on, same_writes_in, keeps_in, keeps_all_in}
 
@@ -55,7 +55,7 @@ unfolding all
 all_at f h g e [] = refl
 all_at f h g e (k ∷ l) = λ i. e k i && all_at f h g e l i
 
-module _ (a b : Side) (m n : Model.Side) (h : Stands a m) (k : Stands b n) where
+module _ (a b : Side) (m n : Model.Side) (h : Agrees a m) (k : Agrees b n) where
   pub reads_paper : same_reads_in a.reads b.reads ≡ same_reads m n
   unfolding same_reads_in same_reads
   reads_paper = each_same _ _ (λ p q i. eqb (h.counts p q i) (k.counts p q i))

@@ -27,7 +27,7 @@ use Rattle.side.specs.declared.Side.{Side}
 use Rattle.side.specs.Parts.{Port, count_on, no_port, written_on, start_as}
 use Rattle.side.specs.Following.{Reached, whole, stuck, follow_k, followed_as}
 use Rattle.side.proofs.Lists.{Both, both_large, both_fits}
-use Rattle.side.proofs.Paper.{StandsPort, StandsEnv, StandsAsked, Stands, symbol_packs, follow_stands}
+use Rattle.side.proofs.Paper.{StandsPort, StandsPortIf, StandsEnv, StandsAsked, Stands, symbol_packs, follow_stands}
 
 -- What the parts of a side hold.
 
@@ -40,7 +40,7 @@ pub conditions_few : (cs : Conditions) (l : List Model.Condition) → StandsAske
 conditions_few cs l h = omega (arith, h.count, h.few)
 
 -- The sums written to a port, in order.
-pub port_read : (w : Port) (l : List Sum) → StandsPort w l → written_on w ≡ map (pack_sum pack) l
+pub port_read : (w : Port) (l : List Sum) → StandsPortIf ⊥ w l → written_on w ≡ map (pack_sum pack) l
 port_read w l h = h.same
 
 -- The sum of a variable.

@@ -40,7 +40,7 @@ use Rattle.condition.proofs.Paper.{ConditionStands, AllStand}
 use Rattle.side.specs.declared.Side.{Side}
 use Rattle.side.specs.Parts.{Port, count_on, one_more, no_port, written_on, with_sum, wrote_on, with_write, at_state, with_asked, with_sum_of, with_read, with_given}
 use Rattle.side.specs.Following.{Reached, whole, stuck, formed_on, action_k, actions_k, asked_k, follow_k}
-use Rattle.side.proofs.Lists.{Alike, Both, both_sum, both_after}
+use Rattle.side.proofs.Lists.{Alike, Both, both_sum, both_after, both_weaker}
 
 -- A port stands for the sums written to it.
 pub record StandsPort (w : Port) (l : List Sum) : Type 0 where
@@ -70,6 +70,57 @@ pub record Stands (d : Side) (m : Model.Side) : Type 0 where
   pub four_writes : length d.writes ≡ 4
   pub counts : (p : ℕ) → p < 4 → count_on d.reads p ≡ reads p m.events
   pub ports : (p : ℕ) → p < 4 → StandsPort (get_or d.writes p no_port) (writes p m.events)
+
+-- The same of a port and of a side, with the bound on the sums of a port only where Q holds: following asks for no bound, and keeps one
+-- that is there.
+
+pub record StandsPortIf (Q : Type 0) (w : Port) (l : List Sum) : Type 0 where
+  pub count : length w.items ≡ length l
+  pub few : Q → length w.items ≤ 16
+  pub same : written_on w ≡ map (pack_sum pack) l
+  pub keyed : AllKeyed l
+
+pub record StandsIf (Q : Type 0) (d : Side) (m : Model.Side) : Type 0 where
+  pub state : d.state ≡ m.state
+  pub conditions : StandsAsked d.conditions m.conditions
+  pub variables : StandsEnv d.env m.environment
+  pub four_reads : length d.reads ≡ 4
+  pub four_writes : length d.writes ≡ 4
+  pub counts : (p : ℕ) → p < 4 → count_on d.reads p ≡ reads p m.events
+  pub ports : (p : ℕ) → p < 4 → StandsPortIf Q (get_or d.writes p no_port) (writes p m.events)
+
+-- A side stands for one of the paper, with no bound.
+abbrev pub Agrees : Side → Model.Side → Type 0
+Agrees d m = StandsIf ⊥ d m
+
+-- With the bound they stand so, whatever Q is; and where Q holds, with the bound.
+
+pub port_loosened : {Q : Type 0} {w : Port} {l : List Sum} → StandsPort w l → StandsPortIf Q w l
+port_loosened h = record { count = h.count; few = λ q. h.few; same = h.same; keyed = h.keyed }
+
+pub loosened : {Q : Type 0} {d : Side} {m : Model.Side} → Stands d m → StandsIf Q d m
+loosened h =
+    record {
+      state = h.state;
+      conditions = h.conditions;
+      variables = h.variables;
+      four_reads = h.four_reads;
+      four_writes = h.four_writes;
+      counts = h.counts;
+      ports = λ p k. port_loosened (h.ports p k);
+    }
+
+pub bounded : {Q : Type 0} {d : Side} {m : Model.Side} → Q → StandsIf Q d m → Stands d m
+bounded q h =
+    record {
+      state = h.state;
+      conditions = h.conditions;
+      variables = h.variables;
+      four_reads = h.four_reads;
+      four_writes = h.four_writes;
+      counts = h.counts;
+      ports = λ p k. let w = h.ports p k in record { count = w.count; few = w.few q; same = w.same; keyed = w.keyed };
+    }
 
 -- The sum of an expression.
 
@@ -200,13 +251,13 @@ keyed_more [] s h g = (g, tt)
 keyed_more (x ∷ l) s h g = (h.0, keyed_more l s h.1 g)
 
 -- A port with one sum more.
-port_more : (w : Port) (m : List Sum) (l : List Term) (s : Sum) → StandsPort w m → length w.items < 16 → Packs l s → StandsPort (with_sum w (as_sum l)) (m ++ (s ∷ []))
+port_more : {Q : Type 0} (w : Port) (m : List Sum) (l : List Term) (s : Sum) → StandsPortIf Q w m → length w.items < 16 → Packs l s → StandsPortIf Q (with_sum w (as_sum l)) (m ++ (s ∷ []))
 unfolding written_on with_sum
 port_more w m l s g room p =
     let e : length (m ++ (s ∷ [])) ≡ length m + 1 = length-append m (s ∷ []) in
     record {
       count = omega (arith, e, g.count, length-append w.items (as_sum l ∷ []));
-      few = omega (arith, length-append w.items (as_sum l ∷ []));
+      few = λ q. omega (arith, length-append w.items (as_sum l ∷ []));
       same = map-append terms_of w.items (as_sum l ∷ [])
           ∙ (λ i. g.same i ++ ((terms_as l p.few ∙ p.same) i ∷ []))
           ∙ sym (map-append (pack_sum pack) m (s ∷ []));
@@ -214,13 +265,13 @@ port_more w m l s g room p =
     }
 
 -- A write more: the port that is written to, and each other one.
-module _ (ws : List Port) (p : ℕ) (l : List Term) (s : Sum) (four : length ws ≡ 4) (h : p < 4) (room : wrote_on ws p < 16) (packs : Packs l s) where
-  ports_gave : (events : List (Event Sum)) (q : ℕ) → q < 4 → StandsPort (get_or ws p no_port) (writes p events) → StandsPort (get_or ws q no_port) (writes q events)
-      → StandsPort (get_or (with_write ws p (as_sum l)) q no_port) (writes q (events ++ (gave p s ∷ [])))
+module _ {Q : Type 0} (ws : List Port) (p : ℕ) (l : List Term) (s : Sum) (four : length ws ≡ 4) (h : p < 4) (room : wrote_on ws p < 16) (packs : Packs l s) where
+  ports_gave : (events : List (Event Sum)) (q : ℕ) → q < 4 → StandsPortIf Q (get_or ws p no_port) (writes p events) → StandsPortIf Q (get_or ws q no_port) (writes q events)
+      → StandsPortIf Q (get_or (with_write ws p (as_sum l)) q no_port) (writes q (events ++ (gave p s ∷ [])))
   unfolding keep_if with_write wrote_on
   ports_gave events q k e f = by (eqb q p) refl
     where
-      by : (b : Bool) → eqb q p ≡ b → StandsPort (get_or (with_write ws p (as_sum l)) q no_port) (writes q (events ++ (gave p s ∷ [])))
+      by : (b : Bool) → eqb q p ≡ b → StandsPortIf Q (get_or (with_write ws p (as_sum l)) q no_port) (writes q (events ++ (gave p s ∷ [])))
       by true z =
           let same : q ≡ p = eqb-true q p z in
           let t : writes q (events ++ (gave p s ∷ [])) ≡ writes p events ++ (s ∷ []) =
@@ -233,13 +284,13 @@ module _ (ws : List Port) (p : ℕ) (l : List Term) (s : Sum) (four : length ws 
           rw (t, get_or-set_other ws p q (with_sum (get_or ws p no_port) (as_sum l)) no_port (eqb-false q p z)) f
 
 -- What actions make stands for the paper's side, which keeps its conditions.
-pub record Moved (cs : List Model.Condition) (d : Side) (m : Model.Side) : Type 0 where
-  pub stands : Stands d m
+pub record Moved (Q : Type 0) (cs : List Model.Condition) (d : Side) (m : Model.Side) : Type 0 where
+  pub stands : StandsIf Q d m
   pub conditions : m.conditions ≡ cs
 
 -- One action on a side.
-module _ (cs : List Model.Condition) (d : Side) (m : Model.Side) (k : Moved cs d m) where
-  assigned : (x : ℕ) (l : List Term) (s : Sum) → Packs l s → Moved cs (with_sum_of d x (as_sum l)) (side m.state (set m.environment x s) m.conditions m.events)
+module _ {Q : Type 0} (cs : List Model.Condition) (d : Side) (m : Model.Side) (k : Moved Q cs d m) where
+  assigned : (x : ℕ) (l : List Term) (s : Sum) → Packs l s → Moved Q cs (with_sum_of d x (as_sum l)) (side m.state (set m.environment x s) m.conditions m.events)
   unfolding side with_sum_of
   assigned x l s p =
       record {
@@ -256,7 +307,7 @@ module _ (cs : List Model.Condition) (d : Side) (m : Model.Side) (k : Moved cs d
       }
 
   taken : (p x : ℕ) → p < 4 → count_on d.reads p < 16
-      → Moved cs (with_read d p x) (side m.state (set m.environment x (symbol_sum (read_symbol p (reads p m.events)))) m.conditions (m.events ++ (took p ∷ [])))
+      → Moved Q cs (with_read d p x) (side m.state (set m.environment x (symbol_sum (read_symbol p (reads p m.events)))) m.conditions (m.events ++ (took p ∷ [])))
   unfolding side with_read
   taken p x i j =
       let c : count_on d.reads p ≡ reads p m.events = k.stands.counts p i in
@@ -274,7 +325,7 @@ module _ (cs : List Model.Condition) (d : Side) (m : Model.Side) (k : Moved cs d
       }
 
   given : (p : ℕ) (l : List Term) (s : Sum) → Packs l s → p < 4 → wrote_on d.writes p < 16
-      → Moved cs (with_given d p (as_sum l)) (side m.state m.environment m.conditions (m.events ++ (gave p s ∷ [])))
+      → Moved Q cs (with_given d p (as_sum l)) (side m.state m.environment m.conditions (m.events ++ (gave p s ∷ [])))
   unfolding side with_given with_write
   given p l s w i j =
       record {
@@ -290,28 +341,28 @@ module _ (cs : List Model.Condition) (d : Side) (m : Model.Side) (k : Moved cs d
         conditions = k.conditions;
       }
 
-module _ (before : Env) (env : List Sum) (v : StandsEnv before env) where
+module _ {Q : Type 0} (before : Env) (env : List Sum) (v : StandsEnv before env) where
   -- One action.
-  action_stands : (a : Action) (cs : List Model.Condition) (d : Side) (m : Model.Side) → Moved cs d m → Both (Moved cs) (action_k before a d) (follow_action base env a m)
+  action_stands : (a : Action) (cs : List Model.Condition) (d : Side) (m : Model.Side) → Moved Q cs d m → Both (Moved Q cs) (action_k before a d) (follow_action base env a m)
   unfolding action_k follow_action Both wrote_on
   action_stands (assign x e) cs d m k =
-      both_sum Packs (Moved cs) (formed_on before e) (sum_of base env e) d _ _ (formed_packs before env e v) (assigned cs d m k x)
+      both_sum Packs (Moved Q cs) (formed_on before e) (sum_of base env e) d _ _ (formed_packs before env e v) (assigned cs d m k x)
   action_stands (read p x) cs d m k =
       let same = room_same p (count_on d.reads p) (reads p m.events) (k.stands.counts p) in
-      both_if (Moved cs) (room_on p (count_on d.reads p)) (room_on p (reads p m.events)) _ _ _ same
+      both_if (Moved Q cs) (room_on p (count_on d.reads p)) (room_on p (reads p m.events)) _ _ _ same
       (λ e. let r = room_facts p (count_on d.reads p) (same ∙ e) in taken cs d m k p x r.0 r.1)
   action_stands (write p e) cs d m k =
       let same = room_same p (wrote_on d.writes p) (length (writes p m.events)) (λ i. (k.stands.ports p i).count) in
-      both_sum Packs (Moved cs) (formed_on before e) (sum_of base env e) d _ _ (formed_packs before env e v)
-      (λ l s w. both_if (Moved cs) (room_on p (wrote_on d.writes p)) (room_on p (length (writes p m.events))) _ _ _ same
+      both_sum Packs (Moved Q cs) (formed_on before e) (sum_of base env e) d _ _ (formed_packs before env e v)
+      (λ l s w. both_if (Moved Q cs) (room_on p (wrote_on d.writes p)) (room_on p (length (writes p m.events))) _ _ _ same
       (λ f. let r = room_facts p (wrote_on d.writes p) (same ∙ f) in given cs d m k p l s w r.0 r.1))
 
   -- Actions in listed order.
-  actions_stand : (l : List Action) (cs : List Model.Condition) (d : Side) (m : Model.Side) → Moved cs d m → Both (Moved cs) (actions_k before l d) (follow_actions base env l m)
+  actions_stand : (l : List Action) (cs : List Model.Condition) (d : Side) (m : Model.Side) → Moved Q cs d m → Both (Moved Q cs) (actions_k before l d) (follow_actions base env l m)
   unfolding actions_k follow_actions Both
   actions_stand [] cs d m k = k
   actions_stand (a ∷ l) cs d m k =
-      both_after (Moved cs) (Moved cs) (action_k before a d) (follow_action base env a m) _ _ (action_stands a cs d m k) (actions_stand l cs)
+      both_after (Moved Q cs) (Moved Q cs) (action_k before a d) (follow_action base env a m) _ _ (action_stands a cs d m k) (actions_stand l cs)
 
 -- The conditions with that of a state: those that are asked stand behind those that were.
 
@@ -329,17 +380,17 @@ kind_back Word.signed_less = refl
 kind_back Word.unsigned_less = refl
 
 -- A side behind a state, which has one condition more at most.
-record Behind (d : Side) (m : Model.Side) (c : Side) (l : List Model.Condition) : Type 0 where
-  stands : Stands c (side m.state m.environment (m.conditions ++ l) m.events)
+record Behind (Q : Type 0) (d : Side) (m : Model.Side) (c : Side) (l : List Model.Condition) : Type 0 where
+  stands : StandsIf Q c (side m.state m.environment (m.conditions ++ l) m.events)
   count : length (conditions_of c.conditions) ≤ length (conditions_of d.conditions) + 1
 
-module _ (d : Side) (m : Model.Side) (h : Stands d m) where
-  behind_none : Behind d m d []
+module _ {Q : Type 0} (d : Side) (m : Model.Side) (h : StandsIf Q d m) where
+  behind_none : Behind Q d m d []
   unfolding side
   behind_none = record { stands = rw append-nil h; count = omega arith }
 
   module _ (c : Model.Condition) (x y : List Term) (room : length (conditions_of d.conditions) < 32) (p : Packs x c.left) (q : Packs y c.right) where
-    behind_one : Behind d m (with_asked d (kind_as c.kind) (as_sum x) (as_sum y) c.taken) (c ∷ [])
+    behind_one : Behind Q d m (with_asked d (kind_as c.kind) (as_sum x) (as_sum y) c.taken) (c ∷ [])
     unfolding side with_asked with_condition
     behind_one =
         let cs : Conditions = d.conditions in
@@ -371,13 +422,13 @@ module _ (d : Side) (m : Model.Side) (h : Stands d m) where
           count = omega (arith, f);
         }
 
-  asked_stands : (x : State) (b : Bool) → length (conditions_of d.conditions) < 32 → Both (Behind d m) (asked_k x b d) (asked base x b m)
+  asked_stands : (x : State) (b : Bool) → length (conditions_of d.conditions) < 32 → Both (Behind Q d m) (asked_k x b d) (asked base x b m)
   unfolding asked_k asked Both
   asked_stands stop b k = behind_none
   asked_stands (step e) b k = behind_none
   asked_stands (test kind l r e f) b k =
-      both_sum Packs (Behind d m) (formed_on d.env l) (sum_of base m.environment l) d _ _ (formed_packs d.env m.environment l h.variables)
-      (λ y s p. both_sum Packs (Behind d m) (formed_on d.env r) (sum_of base m.environment r) d _ _ (formed_packs d.env m.environment r h.variables)
+      both_sum Packs (Behind Q d m) (formed_on d.env l) (sum_of base m.environment l) d _ _ (formed_packs d.env m.environment l h.variables)
+      (λ y s p. both_sum Packs (Behind Q d m) (formed_on d.env r) (sum_of base m.environment r) d _ _ (formed_packs d.env m.environment r h.variables)
       (λ z t q. behind_one (record { kind = kind; left = s; right = t; taken = b }) y z k p q))
 
 -- An edge, and then the side behind it.
@@ -390,14 +441,14 @@ both_map R S (whole a) too_large g h k = absurd h
 both_map R S (whole a) (fits b) g h k = k a b h
 
 -- A side behind an edge stands for the paper's, and has no more conditions than it had.
-record Left (d : Side) (t : ℕ) (g : Side) (m : Model.Side) : Type 0 where
-  stands : Stands (at_state t g) m
+record Left (Q : Type 0) (d : Side) (t : ℕ) (g : Side) (m : Model.Side) : Type 0 where
+  stands : StandsIf Q (at_state t g) m
   count : length (conditions_of g.conditions) ≡ length (conditions_of d.conditions)
 
-edge_stands : (e : Edge) (d : Side) (m : Model.Side) → Stands d m → Both (Left d e.target) (actions_k d.env e.actions d) (follow_edge base e m)
+edge_stands : {Q : Type 0} (e : Edge) (d : Side) (m : Model.Side) → StandsIf Q d m → Both (Left Q d e.target) (actions_k d.env e.actions d) (follow_edge base e m)
 unfolding follow_edge side at_state
-edge_stands e d m h =
-    both_map (Moved m.conditions) (Left d e.target) _ (follow_actions base m.environment e.actions m) _
+edge_stands {Q} e d m h =
+    both_map (Moved Q m.conditions) (Left Q d e.target) _ (follow_actions base m.environment e.actions m) _
     (actions_stand d.env m.environment h.variables e.actions m.conditions d m (record { stands = h; conditions = refl }))
     (λ g c r.
     let k = r.stands in
@@ -414,14 +465,19 @@ edge_stands e d m h =
       count = omega (arith, k.conditions.count, h.conditions.count, ap length r.conditions);
     })
 
--- Following choices keeps in step.
-pub follow_stands : (t : Table) (bs : List Bool) (d : Side) (m : Model.Side) → Stands d m → length (conditions_of d.conditions) + length bs ≤ 32 → Both Stands (follow_k t bs d) (follow base t bs m)
+-- Following choices keeps in step, and so it does with the bound.
+
+pub follow_if : {Q : Type 0} (t : Table) (bs : List Bool) (d : Side) (m : Model.Side) → StandsIf Q d m → length (conditions_of d.conditions) + length bs ≤ 32
+    → Both (StandsIf Q) (follow_k t bs d) (follow base t bs m)
 unfolding follow_k follow Both side at_state
-follow_stands t [] d m h k = h
-follow_stands t (b ∷ bs) d m h k =
+follow_if t [] d m h k = h
+follow_if {Q} t (b ∷ bs) d m h k =
     rw (ap t h.state)
-    (both_after (Behind d m) Stands _ _ _ _
+    (both_after (Behind Q d m) (StandsIf Q) _ _ _ _
     (asked_stands d m h (t m.state) b (omega arith))
-    (λ c l r. both_after (Left c (edge_on (t m.state) b).target) Stands _ _ _ _
+    (λ c l r. both_after (Left Q c (edge_on (t m.state) b).target) (StandsIf Q) _ _ _ _
     (edge_stands (edge_on (t m.state) b) c (side m.state m.environment (m.conditions ++ l) m.events) r.stands)
-    (λ g x u. follow_stands t bs _ x u.stands (omega (arith, r.count, u.count, k)))))
+    (λ g x u. follow_if t bs _ x u.stands (omega (arith, r.count, u.count, k)))))
+
+pub follow_stands : (t : Table) (bs : List Bool) (d : Side) (m : Model.Side) → Stands d m → length (conditions_of d.conditions) + length bs ≤ 32 → Both Stands (follow_k t bs d) (follow base t bs m)
+follow_stands t bs d m h k = both_weaker (StandsIf Unit) Stands _ _ (follow_if t bs d m (loosened h) k) (λ g n. bounded tt)
