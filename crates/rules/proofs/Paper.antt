@@ -1,5 +1,5 @@
 -- The rules on sides as the code holds them are the paper's (`model`, Judgement), wherever a side stands for one of the paper (crate
--- `side`, proofs/Paper: Agrees). Assumes nothing.
+-- `side`, proofs/Paper: Agrees; `loosened` gives it where it Stands). Assumes nothing.
 use Prim.Native.Nat.{ℕ, ◌<◌}
 use mathlib.Core.Path.{◌≡◌, refl, sym, ◌∙◌, ap}
 use mathlib.Core.Bool.{Bool, ◌&&◌}

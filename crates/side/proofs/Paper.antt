@@ -89,7 +89,7 @@ pub record StandsIf (Q : Type 0) (d : Side) (m : Model.Side) : Type 0 where
   pub counts : (p : ℕ) → p < 4 → count_on d.reads p ≡ reads p m.events
   pub ports : (p : ℕ) → p < 4 → StandsPortIf Q (get_or d.writes p no_port) (writes p m.events)
 
--- A side stands for one of the paper, with no bound.
+-- A side stands for one of the paper, with no bound on the sums of a port.
 abbrev pub Agrees : Side → Model.Side → Type 0
 Agrees d m = StandsIf ⊥ d m
 
@@ -465,7 +465,7 @@ edge_stands {Q} e d m h =
       count = omega (arith, k.conditions.count, h.conditions.count, ap length r.conditions);
     })
 
--- Following choices keeps in step, and so it does with the bound.
+-- Following choices keeps in step, whatever Q is; and so it does with the bound.
 
 pub follow_if : {Q : Type 0} (t : Table) (bs : List Bool) (d : Side) (m : Model.Side) → StandsIf Q d m → length (conditions_of d.conditions) + length bs ≤ 32
     → Both (StandsIf Q) (follow_k t bs d) (follow base t bs m)
